@@ -1,0 +1,80 @@
+//! The fields of an image: little-endian numbers at a place (ELF-64, "Data representation").
+
+ghost use Rattle.std.specs.Prelude.{◌≡◌, ◌+◌, ◌≤◌, length};
+ghost use Rattle.erim_defs.specs.Image.{entry_point, number_at, segment_at, table_place};
+
+use byteorder::{ByteOrder, LittleEndian};
+use erim_defs::Segment;
+
+// The places of two fields in the file header.
+const ENTRY_POINT: usize = 24;
+
+const TABLE_PLACE: usize = 32;
+
+// The places of the fields in a program header.
+const FLAGS: usize = 4;
+
+const OFFSET: usize = 8;
+
+const ADDRESS: usize = 16;
+
+const FILE_SIZE: usize = 32;
+
+const MEMORY_SIZE: usize = 40;
+
+/// The number in the two bytes at a place.
+#[tactic(auto, unfolding(erim_defs::specs::Image::number_at))]
+pub(crate) fn u16_at(bytes: &[u8], place: usize) -> u16
+    requires { place + 2 ≤ length bytes.now }
+    ensures { result ≡ number_at bytes.now place 2 }
+{
+    LittleEndian::read_u16(&bytes[place..])
+}
+
+/// The number in the four bytes at a place.
+#[tactic(auto, unfolding(erim_defs::specs::Image::number_at))]
+pub(crate) fn u32_at(bytes: &[u8], place: usize) -> u32
+    requires { place + 4 ≤ length bytes.now }
+    ensures { result ≡ number_at bytes.now place 4 }
+{
+    LittleEndian::read_u32(&bytes[place..])
+}
+
+/// The number in the eight bytes at a place.
+#[tactic(auto, unfolding(erim_defs::specs::Image::number_at))]
+pub(crate) fn u64_at(bytes: &[u8], place: usize) -> u64
+    requires { place + 8 ≤ length bytes.now }
+    ensures { result ≡ number_at bytes.now place 8 }
+{
+    LittleEndian::read_u64(&bytes[place..])
+}
+
+/// The address at which the program starts.
+pub(crate) fn entry_point(bytes: &[u8]) -> u64
+    requires { 64 ≤ length bytes.now }
+    ensures { result ≡ entry_point bytes.now }
+{
+    u64_at(bytes, ENTRY_POINT)
+}
+
+/// The place of the first program header.
+pub(crate) fn table_place(bytes: &[u8]) -> u64
+    requires { 64 ≤ length bytes.now }
+    ensures { result ≡ table_place bytes.now }
+{
+    u64_at(bytes, TABLE_PLACE)
+}
+
+/// The segment that the program header at a place tells.
+pub(crate) fn segment_at(bytes: &[u8], place: usize) -> Segment
+    requires { place + 56 ≤ length bytes.now }
+    ensures { result ≡ segment_at bytes.now place }
+{
+    Segment {
+        vaddr: u64_at(bytes, place + ADDRESS),
+        offset: u64_at(bytes, place + OFFSET),
+        filesz: u64_at(bytes, place + FILE_SIZE),
+        memsz: u64_at(bytes, place + MEMORY_SIZE),
+        flags: u32_at(bytes, place + FLAGS),
+    }
+}

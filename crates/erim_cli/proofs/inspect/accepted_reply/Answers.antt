@@ -1,0 +1,11 @@
+use Rattle.std.proofs.Common.{sym}
+use Rattle.erim_cli.specs.Replies.{image_list}
+use Rattle.erim_cli.specs.Listing.{Shows}
+use Rattle.erim_cli.proofs.InspectLemmas.{shows_image, reply_shows}
+use Rattle.erim_cli.proofs.inspect.accepted_reply.Goals as goal
+
+pub returns : goal.returns
+returns c =
+    let shows : Shows c.in_ok-listing.listing (image_list c.args.image.now) =
+    shows_image c.args.image.now _ c.segments.result.now _ c.in_ok-listing.listing c.bytes.ensures.bytes c.segments.ensures.list c.segments.ensures.one c.in_ok-listing.ensures in
+    reply_shows c.list_status-status.result c.in_ok-listing.listing (image_list c.args.image.now) shows (c.list_status-status.ensures (image_list c.args.image.now) (sym shows.count))

@@ -1,0 +1,7 @@
+-- A command of the code, as the command that words mean.
+use Rattle.erim_defs.specs.Words.{Command as Meant, Inspect as MeantInspect}
+use Rattle.erim_cli.specs.declared.words.Command.{Command}
+use Rattle.erim_cli.specs.declared.words.Command.TheVariants.{Inspect}
+
+abbrev pub meaning : Command → Meant
+meaning (Inspect image) = MeantInspect image.now

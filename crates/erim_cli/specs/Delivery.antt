@@ -1,0 +1,87 @@
+-- How a reply is delivered, and how a call of the program ends.
+use Rattle.std.specs.Prelude.{◌≡◌, ◌≢◌, ◌⊎◌, ℕ, Option, Some, None, List, [], ◌∷◌, ◌++◌, codes}
+use Rattle.std.specs.Io.KnownBytes.{Appends, Keeps}
+use Rattle.erim_io.specs.Store.{Name, Files}
+use Rattle.erim_io.specs.Sink.{HasRisen, AppendsPart}
+use Rattle.erim_io.specs.declared.store.Store.{Ghosts as StoreMeanings}
+use Rattle.erim_io.specs.declared.sink.Sink.{Ghosts as SinkMeanings}
+use Rattle.erim_defs.specs.Texts.{error_line}
+use Rattle.erim_defs.specs.Words.{Command, Inspect}
+use Rattle.erim_cli.specs.Replies.{Reply, IsReplyTo}
+
+-- a text was put: whole, with its status, or a prefix with status 4 where the count of faults rose
+abbrev pub PutEnds : ℕ → List ℕ → Option (List ℕ) → Option (List ℕ) → ℕ → ℕ → ℕ → Type 0
+PutEnds status text old new faults_old faults_new result =
+    ((result ≡ status) × Appends old new text) ⊎ ((result ≡ 4) × HasRisen faults_old faults_new × AppendsPart old new text)
+
+-- what store and sink tell at a moment
+pub record World : Type 0 where
+  pub held : Option Files
+  pub failed_loads : List Name
+  pub failed_saves : List Name
+  pub written : Option (List ℕ)
+  pub faults : ℕ
+
+abbrev pub world : {S K : Type 0} → StoreMeanings S → SinkMeanings K → S → K → World
+world of_store of_sink store out = record {
+  held = of_store.held store;
+  failed_loads = of_store.failed_loads store;
+  failed_saves = of_store.failed_saves store;
+  written = of_sink.written out;
+  faults = of_sink.faults out;
+}
+
+-- what is held and the lists of faults stay
+pub record KeepsStore (old new : World) : Type 0 where
+  pub held : new.held ≡ old.held
+  pub loads : new.failed_loads ≡ old.failed_loads
+  pub saves : new.failed_saves ≡ old.failed_saves
+
+-- nothing was written
+pub record IsUntouched (old new : World) : Type 0 where
+  pub text : Keeps old.written new.written
+  pub store : KeepsStore old new
+
+-- the reply was written whole
+pub record IsAnswered (reply : Reply) (old new : World) : Type 0 where
+  pub text : Appends old.written new.written reply.text
+  pub store : KeepsStore old new
+
+-- a put failed: a prefix of the reply was written
+pub record IsCutShort (reply : Reply) (old new : World) : Type 0 where
+  pub risen : HasRisen old.faults new.faults
+  pub text : AppendsPart old.written new.written reply.text
+  pub store : KeepsStore old new
+
+-- a text was written whole, or a prefix of it where the count rose
+abbrev pub WritesLine : List ℕ → World → World → Type 0
+WritesLine text old new = Appends old.written new.written text ⊎ (HasRisen old.faults new.faults × AppendsPart old.written new.written text)
+
+-- the load of a name failed: it joined the list, and a line says so
+pub record HasNotLoaded (name : Name) (old new : World) : Type 0 where
+  pub loads : new.failed_loads ≡ old.failed_loads ++ name ∷ []
+  pub saves : new.failed_saves ≡ old.failed_saves
+  pub held : new.held ≡ old.held
+  pub line : WritesLine (error_line (codes "load failed")) old new
+
+-- the name that a command loads
+abbrev pub IsLoadedBy : Option Command → Name → Type 0
+IsLoadedBy None name = ⊥
+IsLoadedBy (Some (Inspect image)) name = name ≡ image
+
+-- a load of the command's name failed, or a put of its reply
+abbrev pub HasFailed : Option Command → World → World → Type 0
+HasFailed command old new =
+    ((name : Name) × IsLoadedBy command name × HasNotLoaded name old new)
+    ⊎ ((reply : Reply) × IsReplyTo command old.held reply × IsCutShort reply old new)
+
+-- the command's reply with its status
+abbrev pub IsReplied : Option Command → World → World → ℕ → Type 0
+IsReplied command old new status =
+    (reply : Reply) × IsReplyTo command old.held reply × (status ≡ reply.status) × IsAnswered reply old new
+
+-- how a call ends, by its status
+pub record Ends (command : Option Command) (old new : World) (status : ℕ) : Type 0 where
+  pub memory : status ≡ 5 → IsUntouched old new
+  pub failed : status ≡ 4 → HasFailed command old new
+  pub replied : status ≢ 4 → status ≢ 5 → IsReplied command old new status

@@ -1,0 +1,43 @@
+//! What the program's words mean.
+
+ghost use Rattle.std.specs.Prelude.{◌≡◌, ◌↔◌, List, map, IsTrue};
+ghost use Rattle.std.specs.Option.{option_map};
+ghost use Rattle.std.specs.String.{string_bytes};
+ghost use Rattle.erim_defs.specs.Words.{command_of, inspect_of, is_option};
+ghost use Rattle.erim_cli.specs.Commands.{meaning};
+
+/// A command, with the names that it was given.
+pub enum Command<'a> {
+    /// Prints the unsafe list of an image.
+    Inspect { image: &'a str },
+}
+
+/// Does the word begin with `-`, without being `-` alone?
+fn is_option(word: &str) -> bool
+    ensures { result ≡ is_option word.now }
+{
+    matches!(word.as_bytes(), [b'-', _, ..])
+}
+
+/// The command `inspect` with its words.
+fn inspect_of(words: &[String]) -> Option<Command<'_>>
+    ensures { option_map meaning result ≡ inspect_of (map string_bytes words.now) }
+{
+    match words {
+        [image] if !is_option(image.as_str()) => Some(Command::Inspect {
+            image: image.as_str(),
+        }),
+        _ => None,
+    }
+}
+
+/// The command that the words mean. The first word is the program's name.
+#[tactic(auto, unfolding(erim_defs::specs::Words::command_of))]
+pub fn command_of(words: &[String]) -> Option<Command<'_>>
+    ensures { option_map meaning result ≡ command_of (map string_bytes words.now) }
+{
+    match words {
+        [_program, command, others @ ..] if command.as_str() == "inspect" => inspect_of(others),
+        _ => None,
+    }
+}

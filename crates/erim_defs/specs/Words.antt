@@ -1,0 +1,29 @@
+-- What a list of words means. Own. The first word is the program's name, whatever it is.
+use Rattle.std.specs.Prelude.{ℕ, ◌==◌, Bool, false, Option, Some, None, List, [], ◌∷◌, codes, if◌then◌else◌}
+use Rattle.std.specs.Str.{bytes_eq}
+
+-- a command with its names, each as its bytes
+pub data Command : Type 0 where
+  -- prints the unsafe list of an image
+  Inspect : (image : List ℕ) → Command
+
+-- a word that begins with `-` and isn't `-` alone
+abbrev pub is_option : List ℕ → Bool
+is_option [] = false
+is_option (c ∷ []) = false
+is_option (c ∷ d ∷ rest) = c == 45
+
+-- `inspect IMAGE`
+abbrev pub inspect_of : List (List ℕ) → Option Command
+inspect_of [] = None
+inspect_of (image ∷ []) = if is_option image then None else Some (Inspect image)
+inspect_of (image ∷ more ∷ rest) = None
+
+abbrev pub named_command : List (List ℕ) → Option Command
+named_command [] = None
+named_command (command ∷ others) = if bytes_eq command (codes "inspect") then inspect_of others else None
+
+-- the command that the words mean
+unfoldable pub command_of : List (List ℕ) → Option Command
+command_of [] = None
+command_of (program ∷ words) = named_command words

@@ -1,0 +1,126 @@
+//! A store over the system's files.
+
+ghost use Rattle.std.specs.Prelude.{◌≡◌, ◌≤◌, [], None, map, length, string_bytes, OnOk, OnErr, IfErr};
+ghost use Rattle.std.specs.Io.KnownBytes.{Consumes, IsAtEnd};
+ghost use Rattle.erim_io.specs.Store.{IsTooLong};
+ghost use Rattle.erim_io.specs.FileStore.{FileStoreValue, HasMore};
+
+use crate::notes::{note_load, room_to_note};
+use crate::store::{LoadFault, Store};
+use std::alloc::Global;
+use std::fs::{self, OpenFile};
+use std::io::{ErrorKind, Read};
+use std::marker::Model;
+use std::rt::Files;
+
+// How many bytes one read asks for.
+const PIECE: usize = 16 * 1024;
+
+/// The system's files.
+#[derive(Drop)]
+pub struct FileStore<'a, R: Files> {
+    rt: &'a R,
+    alloc: Global,
+    failed_loads: Vec<String>,
+    failed_saves: Vec<String>,
+}
+
+impl<'a, R: Files> Model for FileStore<'a, R> {
+    ghost Value = { FileStoreValue };
+
+    ghost view = { λ s. record {
+      failed_loads = map string_bytes s.failed_loads.items;
+      failed_saves = map string_bytes s.failed_saves.items;
+    } };
+}
+
+impl<'a, R: Files> FileStore<'a, R> {
+    /// A store without faults so far.
+    pub fn new(alloc: Global, rt: &'a R) -> FileStore<'a, R>
+        ensures { result ≡ record { failed_loads = []; failed_saves = [] } }
+    {
+        FileStore {
+            rt,
+            alloc,
+            failed_loads: Vec::new(alloc),
+            failed_saves: Vec::new(alloc),
+        }
+    }
+
+    /// The names of the loads that failed, in order.
+    pub fn failed_loads(&self) -> &Vec<String>
+        ensures { map string_bytes result.now.items ≡ self.now.failed_loads }
+    {
+        &self.failed_loads
+    }
+}
+
+impl<'a, R: Files> Store for FileStore<'a, R> {
+    ghost held = { λ _. None };
+
+    ghost failed_loads = { λ s. s.failed_loads };
+
+    ghost failed_saves = { λ s. s.failed_saves };
+
+    fn load(&mut self, name: &str, limit: u64, into: &mut Vec<u8>) -> Result<(), LoadFault> {
+        let note = room_to_note(self.alloc, &mut self.failed_loads, name)?;
+        let outcome = read_file(self.rt, name, limit, into);
+        if outcome.is_err() {
+            into.clear();
+        }
+        note_load(&mut self.failed_loads, note, &outcome);
+        outcome
+    }
+}
+
+// Reads a file to its end. A file that is longer than the limit is not read.
+fn read_file<R: Files>(rt: &R, name: &str, limit: u64, into: &mut Vec<u8>) -> Result<(), LoadFault>
+    requires { into.old.items ≡ [] }
+    ensures within { OnOk result (length into.new.items ≤ limit) }
+    ensures too_large { IfErr result (IsTooLong None name.now limit) }
+{
+    let mut file = fs::open(rt, name).map_err(|_| LoadFault::Failed)?;
+    let length = file.metadata().map_err(|_| LoadFault::Failed)?.len();
+    if length > limit {
+        return Err(LoadFault::TooLarge { length });
+    }
+    read_within(&mut file, limit, into)
+}
+
+// Reads to the end, or one byte past the limit where the file grew.
+pub(crate) fn read_within<F: Read>(
+    file: &mut F,
+    limit: u64,
+    into: &mut Vec<u8>,
+) -> Result<(), LoadFault>
+    requires { into.old.items ≡ [] }
+    ensures read { OnOk result (Consumes (F.remaining file.old) (F.remaining file.new) into.new.items) }
+    ensures end { OnOk result (IsAtEnd (F.remaining file.new)) }
+    ensures more { IfErr result (HasMore (F.remaining file.old) limit) }
+    ensures within { OnOk result (length into.new.items ≤ limit) }
+    ensures too_large { IfErr result (IsTooLong None [] limit) }
+{
+    let mut piece = [0; PIECE];
+    for _ in 0..u64::MAX {
+        let left = limit - into.len() as u64;
+        let most = left.saturating_add(1).min(PIECE as u64) as usize;
+        match file.read(&mut piece[..most]) {
+            Ok(0) => return Ok(()),
+            Ok(count) if count as u64 > left => return Err(grown(limit)),
+            Ok(count) => into.extend_from_slice(&piece[..count])?,
+            Err(error) if error.kind() == ErrorKind::Interrupted => {}
+            Err(_) => return Err(LoadFault::Failed),
+        }
+    }
+    Err(LoadFault::Failed)
+}
+
+// The fault of a file that has one byte more than the limit.
+fn grown(limit: u64) -> LoadFault
+    ensures { IsTooLong None [] limit result }
+{
+    match limit.checked_add(1) {
+        Some(length) => LoadFault::TooLarge { length },
+        None => LoadFault::Memory, // no memory holds so many bytes
+    }
+}
