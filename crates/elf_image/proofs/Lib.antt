@@ -1,1 +1,7 @@
-pub mod Accepted
+pub mod ImageLemmas
+pub mod ListLemmas
+pub mod NoteLemmas
+pub mod PageLemmas
+pub mod RecordLemmas
+pub mod RowLemmas
+pub mod TableLemmas

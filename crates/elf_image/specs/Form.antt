@@ -1,10 +1,39 @@
--- What an image keeps of the bytes that it was read from.
-use Rattle.std.specs.Prelude.{◌≡◌, ℕ, List}
+-- What checking an image leaves known, and what an image keeps of the bytes that it was read from.
+use Rattle.std.specs.Prelude.{◌≡◌, ℕ, ◌==◌, Result, MatchResult, Some, None, List}
 use Rattle.erim_defs.specs.declared.segment.Segment.{Segment}
-use Rattle.erim_defs.specs.Image.{IsAccepted, entry_point, segments}
+use Rattle.erim_defs.specs.declared.fault.ImageFault.{ImageFault}
+use Rattle.erim_defs.specs.declared.trust.Span.{Span}
+use Rattle.erim_defs.specs.Trust.{TrustValue}
+use Rattle.erim_defs.specs.Image.{IsAccepted, Record, entry_point, first_fault, image_data, image_heaps, image_trust, later_fault, notes, segments, spans_of, trust_fault}
+use Rattle.elf_image.specs.declared.notes.NotesSeen.{NotesSeen}
+use Rattle.elf_image.specs.Notes.{HasRecords, nothing_seen, see_all}
 
--- the bytes are accepted, and the list and the number are their segments and their entry point
-pub record IsRead (bytes : List ℕ) (list : List Segment) (entry : ℕ) : Type 0 where
+-- all notes were seen
+pub record IsSeen (bytes : List ℕ) (seen : NotesSeen) : Type 0 where
+  pub seen_is : seen ≡ see_all bytes nothing_seen (notes bytes)
+  pub records : HasRecords bytes seen
+
+-- the rows of notes and records find no fault, and tell the notes, or they find one
+abbrev pub ChecksTrust : List ℕ → Result NotesSeen ImageFault → Type 0
+ChecksTrust bytes result = MatchResult result (λ seen. (trust_fault bytes ≡ None) × IsSeen bytes seen) (λ fault. trust_fault bytes ≡ Some fault)
+
+-- the same of all rows behind the first
+abbrev pub ChecksLater : List ℕ → Result NotesSeen ImageFault → Type 0
+ChecksLater bytes result = MatchResult result (λ seen. (later_fault bytes ≡ None) × IsSeen bytes seen) (λ fault. later_fault bytes ≡ Some fault)
+
+-- and of all
+abbrev pub Checks : List ℕ → Result NotesSeen ImageFault → Type 0
+Checks bytes result = MatchResult result (λ seen. IsAccepted bytes × IsSeen bytes seen) (λ fault. first_fault bytes ≡ Some fault)
+
+-- the ranges of the records of a kind
+unfoldable pub spans_in : ℕ → List Record → List Span
+spans_in kind rs = spans_of (λ r. r.kind == kind) rs
+
+-- the bytes are accepted, and the rest is what they tell
+pub record IsRead (bytes : List ℕ) (list : List Segment) (trust : TrustValue) (trusted heaps : List Span) (entry : ℕ) : Type 0 where
   pub accepted : IsAccepted bytes
   pub list_is : list ≡ segments bytes
+  pub trust_is : trust ≡ image_trust bytes
+  pub trusted_is : trusted ≡ image_data bytes
+  pub heaps_is : heaps ≡ image_heaps bytes
   pub entry_is : entry ≡ entry_point bytes

@@ -1,1 +1,4 @@
 pub mod Form
+pub mod Notes
+pub mod Records
+pub mod Table

@@ -1,26 +1,16 @@
 //! The fields of an image: little-endian numbers at a place (ELF-64, "Data representation").
 
 ghost use Rattle.std.specs.Prelude.{◌≡◌, ◌+◌, ◌≤◌, length};
-ghost use Rattle.erim_defs.specs.Image.{entry_point, number_at, segment_at, table_place};
+ghost use Rattle.erim_defs.specs.Image.{entry_point, header_count, number_at, table_place};
 
 use byteorder::{ByteOrder, LittleEndian};
-use erim_defs::Segment;
 
-// The places of two fields in the file header.
+// The places of fields in the file header.
 const ENTRY_POINT: usize = 24;
 
 const TABLE_PLACE: usize = 32;
 
-// The places of the fields in a program header.
-const FLAGS: usize = 4;
-
-const OFFSET: usize = 8;
-
-const ADDRESS: usize = 16;
-
-const FILE_SIZE: usize = 32;
-
-const MEMORY_SIZE: usize = 40;
+const HEADER_COUNT: usize = 56;
 
 /// The number in the two bytes at a place.
 #[tactic(auto, unfolding(erim_defs::specs::Image::number_at))]
@@ -65,16 +55,10 @@ pub(crate) fn table_place(bytes: &[u8]) -> u64
     u64_at(bytes, TABLE_PLACE)
 }
 
-/// The segment that the program header at a place tells.
-pub(crate) fn segment_at(bytes: &[u8], place: usize) -> Segment
-    requires { place + 56 ≤ length bytes.now }
-    ensures { result ≡ segment_at bytes.now place }
+/// The number of program headers.
+pub(crate) fn header_count(bytes: &[u8]) -> u32
+    requires { 64 ≤ length bytes.now }
+    ensures { result ≡ header_count bytes.now }
 {
-    Segment {
-        vaddr: u64_at(bytes, place + ADDRESS),
-        offset: u64_at(bytes, place + OFFSET),
-        filesz: u64_at(bytes, place + FILE_SIZE),
-        memsz: u64_at(bytes, place + MEMORY_SIZE),
-        flags: u32_at(bytes, place + FLAGS),
-    }
+    u32::from(u16_at(bytes, HEADER_COUNT))
 }

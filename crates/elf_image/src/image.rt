@@ -1,11 +1,16 @@
 //! An image that was accepted.
 
-ghost use Rattle.std.specs.Prelude.{◌≡◌, ℕ, ◌<◌, List, length, IsTrue, MatchResult};
-ghost use Rattle.std.specs.List.{All};
-ghost use Rattle.erim_defs.specs.Image.{IsAccepted, entry_point, is_executable, is_in_range, segments};
+ghost use Rattle.std.specs.Prelude.{◌≡◌, ℕ, ◌<◌, ◌≤◌, List, length, sum_by, false, IsTrue, MatchResult};
+ghost use Rattle.std.specs.List.{All, AllPairs};
+ghost use Rattle.erim_defs.specs.Image.{IsAccepted, entry_point, image_data, image_heaps, image_trust, is_in_file, is_in_user, page_count, page_total, segments, shares_page};
+ghost use Rattle.elf_image.specs.Form.{IsSeen};
 
-use crate::field::{entry_point, segment_at, table_place};
-use erim_defs::{ImageFault, Segment};
+use crate::field::entry_point;
+use crate::lists::{entries, segments, spans};
+use crate::notes::NotesSeen;
+use crate::record::{TRUSTED_DATA, TRUSTED_HEAP, TRUSTED_TEXT};
+use crate::segment::page_sum;
+use erim_defs::{ImageFault, Segment, Span, Trust};
 use std::alloc::Global;
 use std::marker::Model;
 
@@ -13,7 +18,10 @@ use std::marker::Model;
 #[derive(Drop)]
 pub struct Image {
     bytes: Vec<u8>,
-    segments: [Segment; 1],
+    segments: Vec<Segment>,
+    trust: Trust,
+    trusted: Vec<Span>,
+    heaps: Vec<Span>,
     entry: u64,
 }
 
@@ -25,23 +33,31 @@ impl Model for Image {
 
     ghost view = { λ image. image.bytes.items };
 
-    ghost invariant = { λ image. IsRead image.bytes.items image.segments image.entry };
+    ghost invariant = { λ image. IsRead image.bytes.items image.segments.items image.trust image.trusted.items image.heaps.items image.entry };
 }
 
 impl Image {
-    /// The image of bytes that are accepted. Only the copy of the bytes takes memory, and it comes last.
-    #[tactic(auto, using(crate::proofs::Accepted::one_program))]
-    pub(crate) fn from_accepted(alloc: Global, bytes: &[u8]) -> Result<Image, ImageFault>
-        requires { IsAccepted bytes.now }
+    /// The image of bytes that are accepted.
+    #[tactic(auto, using(crate::proofs::ImageLemmas::accepted_table))]
+    pub(crate) fn from_accepted(
+        alloc: Global,
+        bytes: &[u8],
+        seen: NotesSeen,
+    ) -> Result<Image, ImageFault>
+        requires accepted { IsAccepted bytes.now }
+        requires notes { IsSeen bytes.now seen }
         ensures { MatchResult result (λ image. image ≡ bytes.now) (λ fault. fault ≡ ImageFault.Memory) }
     {
-        let segments = [segment_at(bytes, table_place(bytes) as usize)];
-        let entry = entry_point(bytes);
-        let bytes = Vec::from_slice(alloc, bytes)?;
+        let table = seen.records();
+        let texts = spans(alloc, bytes, table, TRUSTED_TEXT)?;
+        let trust = Trust::new(texts, entries(alloc, bytes, table)?);
         Ok(Image {
-            bytes,
-            segments,
-            entry,
+            segments: segments(alloc, bytes)?,
+            trust,
+            trusted: spans(alloc, bytes, table, TRUSTED_DATA)?,
+            heaps: spans(alloc, bytes, table, TRUSTED_HEAP)?,
+            entry: entry_point(bytes),
+            bytes: Vec::from_slice(alloc, bytes)?,
         })
     }
 
@@ -54,15 +70,17 @@ impl Image {
     }
 
     /// The loadable segments in table order.
-    #[tactic(auto, using(crate::proofs::Accepted::one_program, crate::proofs::Accepted::all_placed))]
     pub fn segments(&self) -> &[Segment]
         ensures list { result.now ≡ segments self.now }
 
         // Each lies in the file and in user memory.
-        ensures placed { All (λ s. IsTrue (is_in_range (length self.now) s) × IsTrue (is_executable s) × (0 < s.memsz)) result.now }
-        ensures one { length result.now ≡ 1 }
+        ensures placed { All (λ s. IsTrue (is_in_file (length self.now) s) × IsTrue (is_in_user s) × (0 < s.memsz)) result.now }
+
+        // No two share a page.
+        ensures apart { AllPairs (λ s t. shares_page s t ≡ false) result.now }
+        ensures few { sum_by page_count result.now ≤ 4080 }
     {
-        &self.segments
+        self.segments.as_slice()
     }
 
     /// The address at which the program starts.
@@ -70,5 +88,34 @@ impl Image {
         ensures { result ≡ entry_point self.now }
     {
         self.entry
+    }
+
+    /// The trusted text and its entries.
+    pub fn trust(&self) -> &Trust
+        ensures { result.now ≡ image_trust self.now }
+    {
+        &self.trust
+    }
+
+    /// The ranges of trusted data.
+    pub fn trusted_pages(&self) -> &[Span]
+        ensures { result.now ≡ image_data self.now }
+    {
+        self.trusted.as_slice()
+    }
+
+    /// The ranges of trusted heaps.
+    pub fn heaps(&self) -> &[Span]
+        ensures { result.now ≡ image_heaps self.now }
+    {
+        self.heaps.as_slice()
+    }
+
+    /// How many pages all segments touch.
+    #[tactic(auto, unfolding(erim_defs::specs::Image::page_total))]
+    pub fn pages(&self) -> u32
+        ensures { result ≡ page_total self.now }
+    {
+        page_sum(&self.segments) as u32
     }
 }

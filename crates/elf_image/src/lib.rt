@@ -2,11 +2,20 @@
 #![tactic(auto)]
 
 mod field;
+mod header;
+mod headers;
 mod image;
+mod lists;
+mod note;
+mod notes;
+mod pages;
 mod reading;
+mod record;
+mod records;
+mod segment;
 #[cfg(test)]
 mod tests;
 
-pub use erim_defs::{ImageFault, Segment};
+pub use erim_defs::{ImageFault, Segment, Span, Trust};
 pub use image::Image;
 pub use reading::read_image;

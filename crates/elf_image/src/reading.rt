@@ -1,17 +1,23 @@
-//! Reads an image: finds its first fault, or copies it.
+//! Reads an image: finds its first fault, or takes what it tells.
 
-ghost use Rattle.std.specs.Prelude.{◌≡◌, ◌+◌, ◌≤◌, ◌^◌, length, nat_le, nat_lt, not, ◌&&◌, IfSome, MatchResult, Some};
-ghost use Rattle.erim_defs.specs.Image.{IsAccepted, end_page, first_fault, first_page, has_class, has_magic, has_one_header, is_executable, is_in_range, is_read_yet, is_whole_program, touches};
+ghost use Rattle.std.specs.Prelude.{◌≡◌, ◌≤◌, ◌<◌, length, IfSome, MatchResult};
+ghost use Rattle.erim_defs.specs.Image.{IsAccepted, first_fault, has_class, has_magic, head_fault, header_fault};
+ghost use Rattle.elf_image.specs.Form.{Checks, ChecksLater, ChecksTrust};
+ghost use Rattle.elf_image.specs.Notes.{HasNotes};
+ghost use Rattle.elf_image.specs.Table.{HasTable};
 
-use crate::field::{entry_point, segment_at, table_place, u16_at, u32_at};
+use crate::field::{entry_point, header_count, table_place, u16_at};
+use crate::header::PROGRAM_HEADER_SIZE;
+use crate::headers::segment_fault;
 use crate::image::Image;
-use erim_defs::{ImageFault, Segment};
+use crate::notes::{NotesSeen, read_notes};
+use crate::pages::{Purpose, is_held};
+use crate::records::records_fault;
+use crate::segment::PAGE_SIZE;
+use erim_defs::ImageFault;
 use std::alloc::Global;
 
-// The sizes of the file header and of a program header.
 const FILE_HEADER_SIZE: usize = 64;
-
-const PROGRAM_HEADER_SIZE: u64 = 56;
 
 // The places of the file header's fields.
 const FILE_TYPE: usize = 16;
@@ -19,8 +25,6 @@ const FILE_TYPE: usize = 16;
 const MACHINE: usize = 18;
 
 const HEADER_SIZE: usize = 54;
-
-const HEADER_COUNT: usize = 56;
 
 // The values that fields must have.
 const CLASS_64: u8 = 2;
@@ -33,23 +37,9 @@ const EXECUTABLE_FILE: u16 = 2;
 
 const X86_64: u16 = 62;
 
-const PT_LOAD: u32 = 1;
+const MOST_HEADERS: u32 = 64;
 
-// Where a segment may lie: above the lowest address, below the end of user memory, and off the pages
-// of the stack. It has at most so many pages.
-const PAGE_SIZE: u64 = 4096;
-
-const LOWEST_ADDRESS: u64 = 0x10000;
-
-const USER_TOP: u64 = 0x8000_0000_0000;
-
-const STACK_PAGE: u64 = 0x7FFE0;
-
-const STACK_END_PAGE: u64 = 0x7FFF0;
-
-const MOST_PAGES: u64 = 4080;
-
-/// Reads an image. The form that is read so far is a static x86-64 program of one executable segment.
+/// Reads an image: a static x86-64 program with its trust note.
 pub fn read_image(alloc: Global, bytes: &[u8]) -> Result<Image, ImageFault>
     // A fault is the first one, and needs no memory.
     ensures faulty { IfSome (first_fault bytes.now) (λ fault. result ≡ Err fault) }
@@ -57,29 +47,41 @@ pub fn read_image(alloc: Global, bytes: &[u8]) -> Result<Image, ImageFault>
     // What is accepted is read, unless memory runs out.
     ensures accepted { IsAccepted bytes.now → MatchResult result (λ image. image ≡ bytes.now) (λ fault. fault ≡ ImageFault.Memory) }
 {
-    check(bytes)?;
-    Image::from_accepted(alloc, bytes)
+    let seen = check(bytes)?;
+    Image::from_accepted(alloc, bytes, seen)
 }
 
-// The first fault as an error. It stands before the copy, so that a fault needs no memory.
-#[tactic(auto, unfolding(erim_defs::specs::Image::first_fault))]
-fn check(bytes: &[u8]) -> Result<(), ImageFault>
-    ensures { MatchResult result (λ _. IsAccepted bytes.now) (λ fault. first_fault bytes.now ≡ Some fault) }
+// The first fault as an error. It stands before all that takes memory. The later faults have one name so
+// far, which an image with a functions note has too.
+#[tactic(auto, using(crate::proofs::RowLemmas::first_head, crate::proofs::RowLemmas::first_later, crate::proofs::RowLemmas::first_seen, crate::proofs::RowLemmas::head_long))]
+fn check(bytes: &[u8]) -> Result<NotesSeen, ImageFault>
+    ensures { Checks bytes.now result }
+{
+    if let Some(fault) = head_fault(bytes) {
+        return Err(fault);
+    }
+    match check_later(bytes) {
+        Ok(seen) if !seen.functions => Ok(seen),
+        _ => Err(ImageFault::NotYet),
+    }
+}
+
+// What the first bytes show.
+#[tactic(auto, unfolding(erim_defs::specs::Image::head_fault))]
+fn head_fault(bytes: &[u8]) -> Option<ImageFault>
+    ensures { result ≡ head_fault bytes.now }
 {
     if bytes.len() < FILE_HEADER_SIZE {
         let at = bytes.len() as u64;
-        return Err(ImageFault::Short { at });
+        return Some(ImageFault::Short { at });
     }
     if !has_magic(bytes) {
-        return Err(ImageFault::Magic);
+        return Some(ImageFault::Magic);
     }
     if !has_class(bytes) {
-        return Err(ImageFault::Class);
+        return Some(ImageFault::Class);
     }
-    if !is_read_yet(bytes) {
-        return Err(ImageFault::NotYet);
-    }
-    Ok(())
+    None
 }
 
 fn has_magic(bytes: &[u8]) -> bool
@@ -96,93 +98,65 @@ fn has_class(bytes: &[u8]) -> bool
     bytes[4] == CLASS_64 && bytes[5] == LITTLE_ENDIAN && bytes[6] == CURRENT_VERSION
 }
 
-#[tactic(auto, unfolding(erim_defs::specs::Image::is_read_yet))]
-fn is_read_yet(bytes: &[u8]) -> bool
+// The rows behind the first, with the notes that they saw.
+#[tactic(auto, using(crate::proofs::RowLemmas::later_header, crate::proofs::RowLemmas::later_segment, crate::proofs::RowLemmas::later_trust, crate::proofs::RowLemmas::later_entry, crate::proofs::RowLemmas::has_table, crate::proofs::RowLemmas::has_notes))]
+pub(crate) fn check_later(bytes: &[u8]) -> Result<NotesSeen, ImageFault>
     requires { 64 ≤ length bytes.now }
-    ensures { result ≡ is_read_yet bytes.now }
+    ensures { ChecksLater bytes.now result }
 {
-    u16_at(bytes, FILE_TYPE) == EXECUTABLE_FILE
-        && u16_at(bytes, MACHINE) == X86_64
-        && has_one_header(bytes)
-        && is_whole_program(bytes, table_place(bytes) as usize)
+    if let Some(fault) = header_fault(bytes) {
+        return Err(fault);
+    }
+    if let Some(fault) = segment_fault(bytes) {
+        return Err(fault);
+    }
+    let seen = check_trust(bytes)?;
+    if !is_held(bytes, Purpose::Execution, entry_point(bytes) / PAGE_SIZE) {
+        return Err(ImageFault::EntryPoint);
+    }
+    Ok(seen)
 }
 
-fn has_one_header(bytes: &[u8]) -> bool
+// The rest of the file header.
+#[tactic(auto, unfolding(erim_defs::specs::Image::header_fault))]
+fn header_fault(bytes: &[u8]) -> Option<ImageFault>
     requires { 64 ≤ length bytes.now }
-    ensures { result ≡ has_one_header bytes.now }
+    ensures { result ≡ header_fault bytes.now }
 {
-    u64::from(u16_at(bytes, HEADER_SIZE)) == PROGRAM_HEADER_SIZE
-        && u16_at(bytes, HEADER_COUNT) == 1
-        && table_place(bytes) <= bytes.len() as u64 - PROGRAM_HEADER_SIZE
+    if u16_at(bytes, FILE_TYPE) != EXECUTABLE_FILE {
+        return Some(ImageFault::FileType);
+    }
+    if u16_at(bytes, MACHINE) != X86_64 {
+        return Some(ImageFault::Machine);
+    }
+    if usize::from(u16_at(bytes, HEADER_SIZE)) != PROGRAM_HEADER_SIZE {
+        return Some(ImageFault::HeaderSize);
+    }
+    let count = header_count(bytes);
+    if count > MOST_HEADERS {
+        return Some(ImageFault::TooMany { count });
+    }
+    let at = bytes.len() as u64;
+    let size = PROGRAM_HEADER_SIZE as u64 * u64::from(count);
+    if at < size || at - size < table_place(bytes) {
+        return Some(ImageFault::Short { at });
+    }
+    None
 }
 
-fn is_whole_program(bytes: &[u8], place: usize) -> bool
-    requires header { 64 ≤ length bytes.now }
-    requires table { place + 56 ≤ length bytes.now }
-    ensures { result ≡ is_whole_program bytes.now place }
+// The rows of notes and records, with the notes that they saw.
+#[tactic(auto, using(crate::proofs::RowLemmas::trust_version, crate::proofs::RowLemmas::trust_records, crate::proofs::RowLemmas::trust_notes))]
+fn check_trust(bytes: &[u8]) -> Result<NotesSeen, ImageFault>
+    requires table { HasTable bytes.now }
+    requires notes { HasNotes bytes.now }
+    ensures { ChecksTrust bytes.now result }
 {
-    let segment = segment_at(bytes, place);
-    u32_at(bytes, place) == PT_LOAD
-        && is_executable(&segment)
-        && is_in_range(&segment, bytes.len() as u64)
-        && touches(&segment, entry_point(bytes) / PAGE_SIZE)
-}
-
-fn is_executable(segment: &Segment) -> bool
-    ensures { result ≡ is_executable segment.now }
-{
-    segment.flags % 2 == 1
-}
-
-fn is_in_range(segment: &Segment, file_length: u64) -> bool
-    ensures { result ≡ is_in_range file_length segment.now }
-{
-    is_in_file(segment, file_length)
-        && segment.filesz <= segment.memsz
-        && segment.vaddr >= LOWEST_ADDRESS
-        && is_below_top(segment)
-        && is_off_stack(segment)
-        && end_page(segment) <= first_page(segment) + MOST_PAGES
-}
-
-// The sum of offset and size may pass 2^64, so they are compared by a difference.
-fn is_in_file(segment: &Segment, file_length: u64) -> bool
-    ensures { result ≡ nat_le (segment.now.offset + segment.now.filesz) file_length }
-{
-    segment.filesz <= file_length && segment.offset <= file_length - segment.filesz
-}
-
-// The sum of address and size may pass 2^64 too.
-fn is_below_top(segment: &Segment) -> bool
-    ensures { result ≡ nat_le (segment.now.vaddr + segment.now.memsz) (2 ^ 47) }
-{
-    segment.memsz <= USER_TOP && segment.vaddr <= USER_TOP - segment.memsz
-}
-
-fn is_off_stack(segment: &Segment) -> bool
-    requires { segment.now.vaddr + segment.now.memsz ≤ 2 ^ 47 }
-    ensures { result ≡ not (nat_lt (first_page segment.now) 0x7FFF0 && nat_lt 0x7FFE0 (end_page segment.now)) }
-{
-    first_page(segment) >= STACK_END_PAGE || end_page(segment) <= STACK_PAGE
-}
-
-fn first_page(segment: &Segment) -> u64
-    ensures { result ≡ first_page segment.now }
-{
-    segment.vaddr / PAGE_SIZE
-}
-
-// The page after the last that the segment touches.
-fn end_page(segment: &Segment) -> u64
-    requires { segment.now.vaddr + segment.now.memsz ≤ 2 ^ 47 }
-    ensures { result ≡ end_page segment.now }
-{
-    (segment.vaddr + segment.memsz).div_ceil(PAGE_SIZE)
-}
-
-fn touches(segment: &Segment, page: u64) -> bool
-    requires { segment.now.vaddr + segment.now.memsz ≤ 2 ^ 47 }
-    ensures { result ≡ touches segment.now page }
-{
-    segment.memsz > 0 && first_page(segment) <= page && page < end_page(segment)
+    let seen = read_notes(bytes)?;
+    if !seen.versioned {
+        return Err(ImageFault::NoteVersion);
+    }
+    if let Some(fault) = records_fault(bytes, seen.records()) {
+        return Err(fault);
+    }
+    Ok(seen)
 }

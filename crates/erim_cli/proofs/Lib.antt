@@ -1,8 +1,7 @@
-pub mod CheckLemmas
 pub mod DeliveryLemmas
 pub mod InspectLemmas
 pub mod ListingLemmas
-pub mod LoadingLemmas
 pub mod PromiseLemmas
 pub mod ResultLemmas
+pub mod RunLemmas
 pub mod TextLemmas

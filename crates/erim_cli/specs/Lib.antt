@@ -1,7 +1,7 @@
 pub mod Commands
 pub mod Delivery
-pub mod Framed
 pub mod Listing
 pub mod Promises
 pub mod Replies
+pub mod Runs
 pub mod Statuses

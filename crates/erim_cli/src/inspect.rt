@@ -1,38 +1,22 @@
 //! What `inspect` answers for an image.
 
-ghost use Rattle.std.specs.Prelude.{◌≡◌, ◌<◌, List, IsTrue, IfOk, length};
+ghost use Rattle.std.specs.Prelude.{◌≡◌, List, IfOk, length};
 ghost use Rattle.erim_defs.specs.declared.found.Found.{Found};
-ghost use Rattle.erim_defs.specs.Image.{is_executable, is_in_range, segment_code};
-ghost use Rattle.erim_defs.specs.Safe.{no_entries};
-ghost use Rattle.erim_defs.specs.Unsafe.{unsafe_list};
-ghost use Rattle.erim_cli.specs.Listing.{Shows};
 ghost use Rattle.erim_cli.specs.Replies.{reply_of, image_reply, list_status, listed_reply, image_list};
 ghost use Rattle.erim_cli.specs.Statuses.{code_of};
 
-use crate::listing::{Listing, inspect_code};
-use crate::loading::{first_address, page_bytes};
+use crate::listing::segments_listing;
 use crate::reply::{Reply, Status};
 use crate::text::fault_line;
-use elf_image::{Image, ImageFault, Segment, read_image};
+use elf_image::{Image, ImageFault, read_image};
 use erim_defs::NoMemory;
 use std::alloc::Global;
-
-/// The unsafe list of a segment's code.
-fn segment_listing(alloc: Global, image: &[u8], segment: &Segment) -> Result<Listing, NoMemory>
-    requires executable { IsTrue (is_executable segment.now) }
-    requires range { IsTrue (is_in_range (length image.now) segment.now) }
-    requires some { 0 < segment.now.memsz }
-    ensures { IfOk result (λ listing. Shows listing (unsafe_list no_entries (segment_code image.now segment.now))) }
-{
-    let code = page_bytes(alloc, image, segment)?;
-    inspect_code(alloc, code.as_slice(), first_address(segment))
-}
 
 /// The unsafe list of an accepted image, with its status.
 fn accepted_reply(alloc: Global, image: &Image) -> Result<Reply, NoMemory>
     ensures { IfOk result (λ reply. reply_of reply ≡ listed_reply (image_list image.now)) }
 {
-    let listing = segment_listing(alloc, image.bytes(), &image.segments()[0])?;
+    let listing = segments_listing(alloc, image.bytes(), image.segments(), image.trust())?;
     let status = list_status(listing.count);
     Ok(Reply {
         status,

@@ -6,7 +6,7 @@ mod listing;
 mod loading;
 mod plain;
 mod reply;
-mod safe;
+mod runs;
 mod text;
 mod words;
 

@@ -1,6 +1,7 @@
 pub mod CodeLemmas
 pub mod ImageLemmas
 pub mod OccurrenceLemmas
+pub mod PageLemmas
 mod Rows
 pub mod SafeLemmas
 pub mod UnsafeLemmas

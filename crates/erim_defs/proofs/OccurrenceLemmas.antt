@@ -55,3 +55,16 @@ occurrence_inside base bytes o h =
     let high = (laid_at_inside base (o.at + 2) 0xEF bytes w.third).1 in
     let long : o.len ≡ 3 = ap (λ (f : Found). f.len) w.is in
     record { low = low; high = omega arith; some = omega arith; few = omega arith }
+
+-- two codes have the same bytes from an address to another
+abbrev pub Agrees : Code → Code → ℕ → ℕ → Type 0
+Agrees c d low high = (a : ℕ) → low ≤ a → a < high → c a ≡ d a
+
+-- an occurrence is decided by 16 bytes
+pub occurrence_agrees : (c d : Code) (a : ℕ) → Agrees c d a (a + 16) → occurrence_at c a ≡ occurrence_at d a
+unfolding occurrence_at
+occurrence_agrees c d a same = rw (same a (omega arith) (omega arith), same (a + 1) (omega arith) (omega arith), same (a + 2) (omega arith) (omega arith)) refl
+
+-- it has few bytes
+pub occurrence_few : (c : Code) (a : ℕ) (o : Found) → occurrence_at c a ≡ Some o → o.len ≤ 16
+occurrence_few c a o h = let long : o.len ≡ 3 = ap (λ (f : Found). f.len) (occurrence_view c a o h).is in omega arith

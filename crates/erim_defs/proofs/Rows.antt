@@ -9,7 +9,7 @@ use Rattle.erim_defs.specs.Code.{laid_at, has}
 use Rattle.erim_defs.specs.Occurrence.{occurrence_at}
 use Rattle.erim_defs.specs.Safe.{Entries, no_entries, fits, check_of, unsafe_at}
 use Rattle.erim_defs.specs.Unsafe.{found_below}
-use Rattle.erim_defs.specs.Image.{first_fault}
+use Rattle.erim_defs.specs.Image.{first_fault, head_fault}
 use Rattle.erim_defs.specs.Texts.{unsafe_line, inspect_text}
 
 wrpkru : ℕ → Found
@@ -78,5 +78,5 @@ unfolding inspect_text digits
 text_of_none = refl
 
 empty_file : first_fault [] ≡ Some (Short 0)
-unfolding first_fault
+unfolding first_fault head_fault
 empty_file = refl

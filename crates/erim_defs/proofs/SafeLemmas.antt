@@ -1,11 +1,13 @@
 -- A check that is compared byte by byte.
-use Rattle.std.proofs.Common.{◌≡◌, ℕ, suc, ◌+◌, ◌<◌, List, length, get_or, drop, Bool, true, false, ◌&&◌, ◌≤◌, lit≤, refl, arith}
+use Rattle.std.proofs.Common.{◌≡◌, ℕ, suc, ◌+◌, ◌<◌, List, [], ◌∷◌, length, get_or, drop, Bool, true, false, ◌&&◌, ◌≤◌, lit≤, refl, arith}
 use Rattle.std.proofs.Math.Seq.{drop-cons}
 use Rattle.std.proofs.Math.ListN.{drop_of_length-le}
 use Rattle.erim_defs.specs.Code.{Code, allows}
 use Rattle.erim_defs.specs.declared.found.SeqKind.{SeqKind}
 use Rattle.erim_defs.specs.declared.found.SeqKind.TheVariants.{Wrpkru}
-use Rattle.erim_defs.specs.Safe.{fits, check_of, opens_gate, no_entries}
+use Rattle.erim_defs.specs.declared.found.Found.{Found}
+use Rattle.erim_defs.specs.Safe.{Entries, fits, check_of, opens_gate, is_safe}
+use Rattle.erim_defs.proofs.OccurrenceLemmas.{Agrees}
 
 -- the byte at i decides, and then the rest
 pub fits_step : (c : Code) (a i : ℕ) (check : List ℕ) → i < length check → (allowed : Bool) → allows (c (a + i)) (get_or check i 0) ≡ allowed
@@ -26,6 +28,27 @@ pub length-check_of : (kind : SeqKind) → length (check_of kind) ≤ 14
 unfolding check_of
 length-check_of Wrpkru = lit≤ tt
 
--- where there are no entries no gate opens
-pub no_gate : (kind : SeqKind) (next : ℕ) → opens_gate no_entries kind next ≡ false
-no_gate Wrpkru next = refl
+-- an entry behind an occurrence makes it safe
+pub safe_by_gate : (entries : Entries) (c : Code) (o : Found) (next : ℕ) → next ≡ o.at + o.len → opens_gate entries o.kind next ≡ true → is_safe entries c o ≡ true
+safe_by_gate entries c o next e gate = let opened : opens_gate entries o.kind (o.at + o.len) ≡ true = rw e at gate in rw opened refl
+
+-- and without one its check decides
+pub safe_by_check : (entries : Entries) (c : Code) (o : Found) (next : ℕ) → next ≡ o.at + o.len → opens_gate entries o.kind next ≡ false
+    → fits c next (check_of o.kind) ≡ is_safe entries c o
+safe_by_check entries c o next e gate = let shut : opens_gate entries o.kind (o.at + o.len) ≡ false = rw e at gate in rw (e, shut) refl
+
+-- a string fits two codes alike that agree where it is laid
+pub fits_agrees : (c d : Code) (a : ℕ) (check : List ℕ) → Agrees c d a (a + length check) → fits c a check ≡ fits d a check
+unfolding fits
+fits_agrees c d a [] same = refl
+fits_agrees c d a (x ∷ xs) same =
+    let rest : fits c (suc a) xs ≡ fits d (suc a) xs = fits_agrees c d (suc a) xs (λ b low high. same b (omega arith) (omega arith)) in
+    rw (same a (omega arith) (omega arith), rest) refl
+
+-- an occurrence is as safe in one as in the other
+pub safe_agrees : (entries : Entries) (c d : Code) (o : Found) → Agrees c d o.at (o.at + (o.len + 14)) → is_safe entries c o ≡ is_safe entries d o
+safe_agrees entries c d o same =
+    let short = length-check_of o.kind in
+    let fit : fits c (o.at + o.len) (check_of o.kind) ≡ fits d (o.at + o.len) (check_of o.kind) =
+    fits_agrees c d (o.at + o.len) (check_of o.kind) (λ a low high. same a (omega arith) (omega (arith, short, high))) in
+    rw fit refl

@@ -1,6 +1,7 @@
 pub mod Code
 pub mod Occurrence
 pub mod Safe
+pub mod Trust
 pub mod Unsafe
 pub mod Image
 pub mod Texts

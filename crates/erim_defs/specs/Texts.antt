@@ -6,7 +6,7 @@ use Rattle.erim_defs.specs.declared.found.SeqKind.{SeqKind}
 use Rattle.erim_defs.specs.declared.found.SeqKind.TheVariants.{Wrpkru}
 use Rattle.erim_defs.specs.declared.found.Found.{Found}
 use Rattle.erim_defs.specs.declared.fault.ImageFault.{ImageFault}
-use Rattle.erim_defs.specs.declared.fault.ImageFault.TheVariants.{Short, Magic, Class, NotYet, Memory}
+use Rattle.erim_defs.specs.declared.fault.ImageFault.TheVariants.{Short, Magic, Class, FileType, Machine, HeaderSize, TooMany, NotStatic, SegmentRange, SharedPage, NoteShape, NoteVersion, BadRecord, TextNotExec, DataRange, EntryNotTrusted, EntryPoint, NotYet, Memory}
 
 abbrev pub line : List ℕ → List ℕ
 line text = text ++ 10 ∷ []
@@ -34,6 +34,20 @@ abbrev pub fault_text : ImageFault → List ℕ
 fault_text (Short at) = codes "image short at " ++ decimal at
 fault_text Magic = codes "image magic"
 fault_text Class = codes "image class"
+fault_text FileType = codes "image type"
+fault_text Machine = codes "image machine"
+fault_text HeaderSize = codes "image header size"
+fault_text (TooMany count) = codes "image headers " ++ decimal count
+fault_text (NotStatic index) = codes "image header " ++ decimal index ++ codes " not static"
+fault_text (SegmentRange index) = codes "image segment " ++ decimal index ++ codes " range"
+fault_text (SharedPage index) = codes "image segment " ++ decimal index ++ codes " shares a page"
+fault_text (NoteShape at) = codes "image note at " ++ decimal at
+fault_text NoteVersion = codes "image note version"
+fault_text (BadRecord index) = codes "image record " ++ decimal index
+fault_text (TextNotExec index) = codes "image record " ++ decimal index ++ codes " text"
+fault_text (DataRange index) = codes "image record " ++ decimal index ++ codes " data"
+fault_text (EntryNotTrusted index) = codes "image record " ++ decimal index ++ codes " entry"
+fault_text EntryPoint = codes "image entry point"
 fault_text NotYet = codes "image not yet"
 fault_text Memory = codes "out of memory"
 

@@ -5,8 +5,10 @@ mod fault;
 mod found;
 mod memory;
 mod segment;
+mod trust;
 
 pub use fault::ImageFault;
 pub use found::{Found, SeqKind};
 pub use memory::NoMemory;
 pub use segment::Segment;
+pub use trust::{Span, Trust};

@@ -1,53 +1,12 @@
-//! Finds the sequences that write PKRU, at any byte offset.
+//! Finds the sequences that write PKRU, at any byte offset, and tells which are safe.
 #![tactic(auto)]
 
-ghost use Rattle.std.specs.Prelude.{◌≡◌, ◌+◌, ◌<◌, ◌≤◌, ◌^◌, ℕ, length};
-ghost use Rattle.erim_defs.specs.Code.{laid_at, has};
-ghost use Rattle.erim_defs.specs.Occurrence.{occurrence_at, IsFirstFrom};
+mod bytes;
+mod safe;
+mod scan;
 
-use erim_defs::{Found, SeqKind};
-
-/// Is the byte at a place of the code there, and this one?
-#[tactic(auto, using(crate::proofs::ScanLemmas::has_from_get))]
-fn byte_is(code: &[u8], place: usize, byte: u8) -> bool
-    ensures { (base a : ℕ) → a ≡ base + place → has (laid_at base code.now a) byte ≡ result }
-{
-    code.get(place).copied() == Some(byte)
-}
-
-/// The sequence that begins at `place`, if there is one.
-#[tactic(auto, unfolding(erim_defs::specs::Occurrence::occurrence_at))]
-fn sequence_at(code: &[u8], base: u64, place: usize) -> Option<Found>
-    requires inside { place < length code.now }
-    requires user { base + length code.now ≤ 2 ^ 47 }
-    ensures { result ≡ occurrence_at (laid_at base code.now) (base + place) }
-{
-    if byte_is(code, place, 0x0F)
-        && byte_is(code, place + 1, 0x01)
-        && byte_is(code, place + 2, 0xEF)
-    {
-        return Some(Found {
-            at: base + place as u64,
-            len: 3,
-            kind: SeqKind::Wrpkru,
-        });
-    }
-    None
-}
-
-/// The first sequence at or after the place `from` that lies wholly in `code`, whose place 0 has the
-/// address `base`. Each place is asked.
-pub fn next_sequence(code: &[u8], base: u64, from: usize) -> Option<Found>
-    requires { base + length code.now ≤ 2 ^ 47 }
-    ensures { IsFirstFrom (laid_at base code.now) (base + from) result }
-{
-    for place in from..code.len() {
-        if let Some(found) = sequence_at(code, base, place) {
-            return Some(found);
-        }
-    }
-    None
-}
+pub use safe::is_safe;
+pub use scan::next_sequence;
 
 #[cfg(test)]
 mod tests;

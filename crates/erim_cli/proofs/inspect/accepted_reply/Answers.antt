@@ -7,5 +7,5 @@ use Rattle.erim_cli.proofs.inspect.accepted_reply.Goals as goal
 pub returns : goal.returns
 returns c =
     let shows : Shows c.in_ok-listing.listing (image_list c.args.image.now) =
-    shows_image c.args.image.now _ c.segments.result.now _ c.in_ok-listing.listing c.bytes.ensures.bytes c.segments.ensures.list c.segments.ensures.one c.in_ok-listing.ensures in
+    shows_image c.args.image.now _ c.segments.result.now c.trust.result.now c.in_ok-listing.listing c.bytes.ensures.bytes c.segments.ensures.list c.trust.ensures c.in_ok-listing.ensures in
     reply_shows c.list_status-status.result c.in_ok-listing.listing (image_list c.args.image.now) shows (c.list_status-status.ensures (image_list c.args.image.now) (sym shows.count))

@@ -1,0 +1,141 @@
+//! A program header (ELF-64, "Program header").
+
+ghost use Rattle.std.specs.Prelude.{◌≡◌, ◌≤◌, ◌<◌, ◌==◌, ◌&&◌, not};
+ghost use Rattle.erim_defs.specs.Image.{header_count, is_dynamic, is_loadable, is_noted, is_passed_over, is_ranged, pages_of, table_place};
+ghost use Rattle.elf_image.specs.Table.{HasTable, header_of};
+
+use crate::field::{table_place, u32_at, u64_at};
+use crate::segment::{is_in_file, is_in_user, page_count};
+use erim_defs::Segment;
+use std::marker::Model;
+
+pub(crate) const PROGRAM_HEADER_SIZE: usize = 56;
+
+// The places of the fields in a program header.
+const FLAGS: usize = 4;
+
+const OFFSET: usize = 8;
+
+const ADDRESS: usize = 16;
+
+const FILE_SIZE: usize = 32;
+
+const MEMORY_SIZE: usize = 40;
+
+const ALIGNMENT: usize = 48;
+
+// Kinds of headers.
+const PT_LOAD: u32 = 1;
+
+const PT_DYNAMIC: u32 = 2;
+
+const PT_INTERP: u32 = 3;
+
+const PT_NOTE: u32 = 4;
+
+const PT_TLS: u32 = 7;
+
+// Notes of this alignment have another form, and are passed over.
+const WIDE_NOTES: u64 = 8;
+
+const MOST_PAGES: u64 = 4080;
+
+/// A program header.
+#[derive(Drop)]
+pub(crate) struct Header {
+    kind: u32,
+    align: u64,
+    segment: Segment,
+}
+
+impl Model for Header {
+    ghost use Rattle.erim_defs.specs.Image.{Header as HeaderValue};
+
+    ghost Value = { HeaderValue };
+
+    ghost view = { λ header. record { kind = header.kind; align = header.align; segment = header.segment } };
+}
+
+impl Header {
+    /// The header of a number.
+    #[tactic(auto, unfolding(crate::specs::Table::header_of))]
+    pub(crate) fn read(bytes: &[u8], index: u32) -> Header
+        requires table { HasTable bytes.now }
+        requires index { index < header_count bytes.now }
+        ensures { result ≡ header_of bytes.now index }
+    {
+        let place = table_place(bytes) as usize + PROGRAM_HEADER_SIZE * index as usize;
+        let segment = Segment {
+            vaddr: u64_at(bytes, place + ADDRESS),
+            offset: u64_at(bytes, place + OFFSET),
+            filesz: u64_at(bytes, place + FILE_SIZE),
+            memsz: u64_at(bytes, place + MEMORY_SIZE),
+            flags: u32_at(bytes, place + FLAGS),
+        };
+        Header {
+            kind: u32_at(bytes, place),
+            align: u64_at(bytes, place + ALIGNMENT),
+            segment,
+        }
+    }
+
+    /// The segment that the header tells.
+    pub(crate) fn segment(&self) -> Segment
+        ensures { result ≡ self.now.segment }
+    {
+        self.segment
+    }
+
+    /// Does it ask for dynamic linking, an interpreter or thread-local storage?
+    pub(crate) fn is_dynamic(&self) -> bool
+        ensures { result ≡ is_dynamic self.now }
+    {
+        self.kind == PT_DYNAMIC || self.kind == PT_INTERP || self.kind == PT_TLS
+    }
+
+    /// Is it a segment with bytes?
+    pub(crate) fn is_loadable(&self) -> bool
+        ensures { result ≡ is_loadable self.now }
+    {
+        self.kind == PT_LOAD && self.segment.memsz > 0
+    }
+
+    /// Is it a note whose form is read?
+    pub(crate) fn is_noted(&self) -> bool
+        ensures { result ≡ is_noted self.now }
+    {
+        self.kind == PT_NOTE && self.align != WIDE_NOTES
+    }
+
+    /// Does it lie where it may, where so many pages stand before it?
+    pub(crate) fn is_ranged(&self, file_length: u64, pages: u64) -> bool
+        requires { pages ≤ 4080 }
+        ensures { result ≡ is_ranged file_length pages self.now }
+    {
+        if self.kind == PT_NOTE {
+            return is_in_file(&self.segment, file_length);
+        }
+        !self.is_counted()
+            || is_in_file(&self.segment, file_length)
+                && is_in_user(&self.segment)
+                && page_count(&self.segment) <= MOST_PAGES - pages
+    }
+
+    /// 0 for what isn't a segment, else its pages.
+    pub(crate) fn pages(&self) -> u64
+        ensures { result ≡ pages_of self.now }
+    {
+        if self.is_counted() {
+            page_count(&self.segment)
+        } else {
+            0
+        }
+    }
+
+    // A segment without any bytes isn't counted.
+    fn is_counted(&self) -> bool
+        ensures { result ≡ (self.now.kind == 1 && not (is_passed_over self.now)) }
+    {
+        self.kind == PT_LOAD && (self.segment.memsz != 0 || self.segment.filesz != 0)
+    }
+}

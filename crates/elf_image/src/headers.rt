@@ -1,0 +1,83 @@
+//! The rows of faults of the program headers and segments.
+
+ghost use Rattle.std.specs.Prelude.{◌≡◌, ◌≤◌, [], length};
+ghost use Rattle.std.specs.List.{list_any};
+ghost use Rattle.erim_defs.specs.Image.{header_count, headers, range_fault, segment_fault, shared_fault, shares_page, static_fault};
+ghost use Rattle.elf_image.specs.Table.{HasTable, seen_segments};
+
+use crate::field::header_count;
+use crate::header::Header;
+use crate::segment::shares_page;
+use erim_defs::{ImageFault, Segment};
+
+/// The first fault of the program headers and segments.
+#[tactic(auto, unfolding(erim_defs::specs::Image::segment_fault))]
+pub(crate) fn segment_fault(bytes: &[u8]) -> Option<ImageFault>
+    requires { HasTable bytes.now }
+    ensures { result ≡ segment_fault bytes.now }
+{
+    static_fault(bytes)
+        .or_else(|| range_fault(bytes))
+        .or_else(|| shared_fault(bytes))
+}
+
+// The first header that asks for what a static program has not.
+#[tactic(auto, using(crate::proofs::TableLemmas::static_begins, crate::proofs::TableLemmas::static_stops, crate::proofs::TableLemmas::static_goes_on, crate::proofs::TableLemmas::static_ends))]
+fn static_fault(bytes: &[u8]) -> Option<ImageFault>
+    requires { HasTable bytes.now }
+    ensures { result ≡ static_fault 0 (headers bytes.now) }
+{
+    for index in 0..header_count(bytes) {
+        if Header::read(bytes, index).is_dynamic() {
+            return Some(ImageFault::NotStatic { index });
+        }
+    }
+    None
+}
+
+// The first segment or note that lies where it may not.
+#[tactic(auto, using(crate::proofs::TableLemmas::range_begins, crate::proofs::TableLemmas::range_stops, crate::proofs::TableLemmas::range_goes_on, crate::proofs::TableLemmas::ranged_few, crate::proofs::TableLemmas::range_ends))]
+fn range_fault(bytes: &[u8]) -> Option<ImageFault>
+    requires { HasTable bytes.now }
+    ensures { result ≡ range_fault (length bytes.now) 0 0 (headers bytes.now) }
+{
+    let mut pages = 0;
+    for index in 0..header_count(bytes) {
+        let header = Header::read(bytes, index);
+        if !header.is_ranged(bytes.len() as u64, pages) {
+            return Some(ImageFault::SegmentRange { index });
+        }
+        pages += header.pages();
+    }
+    None
+}
+
+// The first segment that touches a page of an earlier one.
+#[tactic(auto, using(crate::proofs::TableLemmas::shared_begins, crate::proofs::TableLemmas::shared_stops, crate::proofs::TableLemmas::shared_goes_on, crate::proofs::TableLemmas::shared_ends))]
+fn shared_fault(bytes: &[u8]) -> Option<ImageFault>
+    requires { HasTable bytes.now }
+    ensures { result ≡ shared_fault 0 [] (headers bytes.now) }
+{
+    for index in 0..header_count(bytes) {
+        let header = Header::read(bytes, index);
+        if header.is_loadable() && shares_earlier(bytes, index, &header.segment()) {
+            return Some(ImageFault::SharedPage { index });
+        }
+    }
+    None
+}
+
+// Does the segment share a page with one of the headers before an index?
+#[tactic(auto, using(crate::proofs::TableLemmas::shares_none, crate::proofs::TableLemmas::shares_more))]
+fn shares_earlier(bytes: &[u8], index: u32, segment: &Segment) -> bool
+    requires table { HasTable bytes.now }
+    requires index { index ≤ header_count bytes.now }
+    ensures { result ≡ list_any (shares_page segment.now) (seen_segments bytes.now index) }
+{
+    let mut shares = false;
+    for earlier in 0..index {
+        let header = Header::read(bytes, earlier);
+        shares = (header.is_loadable() && shares_page(segment, &header.segment())) || shares;
+    }
+    shares
+}

@@ -1,0 +1,72 @@
+//! The lists that an image tells.
+
+ghost use Rattle.std.specs.Prelude.{◌≡◌, IfOk};
+ghost use Rattle.erim_defs.specs.Image.{segments, starts_of};
+ghost use Rattle.elf_image.specs.Form.{spans_in};
+ghost use Rattle.elf_image.specs.Notes.{HasTableOf};
+ghost use Rattle.elf_image.specs.Records.{table_records};
+ghost use Rattle.elf_image.specs.Table.{HasTable};
+
+use crate::field::header_count;
+use crate::header::Header;
+use crate::record::Record;
+use crate::records::RecordTable;
+use erim_defs::{Segment, Span};
+use std::alloc::{AllocError, Global};
+
+/// The loadable segments in table order.
+#[tactic(auto, using(crate::proofs::ListLemmas::segments_begin, crate::proofs::ListLemmas::segments_load, crate::proofs::ListLemmas::segments_pass, crate::proofs::ListLemmas::segments_end))]
+pub(crate) fn segments(alloc: Global, bytes: &[u8]) -> Result<Vec<Segment>, AllocError>
+    requires { HasTable bytes.now }
+    ensures { IfOk result (λ list. list.items ≡ segments bytes.now) }
+{
+    let mut list = Vec::new(alloc);
+    for index in 0..header_count(bytes) {
+        let header = Header::read(bytes, index);
+        if header.is_loadable() {
+            list.push(header.segment())?;
+        }
+    }
+    Ok(list)
+}
+
+/// The ranges of the records of a kind.
+#[tactic(auto, using(crate::proofs::ListLemmas::spans_begin, crate::proofs::ListLemmas::spans_take, crate::proofs::ListLemmas::spans_pass, crate::proofs::ListLemmas::spans_end))]
+pub(crate) fn spans(
+    alloc: Global,
+    bytes: &[u8],
+    table: RecordTable,
+    kind: u32,
+) -> Result<Vec<Span>, AllocError>
+    requires { HasTableOf bytes.now table }
+    ensures { IfOk result (λ list. list.items ≡ spans_in kind (table_records bytes.now table)) }
+{
+    let mut list = Vec::new(alloc);
+    for index in 0..table.count {
+        let record = Record::read(bytes, table, index);
+        if record.kind() == kind {
+            list.push(record.span())?;
+        }
+    }
+    Ok(list)
+}
+
+/// The addresses of the entries.
+#[tactic(auto, using(crate::proofs::ListLemmas::entries_begin, crate::proofs::ListLemmas::entries_take, crate::proofs::ListLemmas::entries_pass, crate::proofs::ListLemmas::entries_end))]
+pub(crate) fn entries(
+    alloc: Global,
+    bytes: &[u8],
+    table: RecordTable,
+) -> Result<Vec<u64>, AllocError>
+    requires { HasTableOf bytes.now table }
+    ensures { IfOk result (λ list. list.items ≡ starts_of (table_records bytes.now table)) }
+{
+    let mut list = Vec::new(alloc);
+    for index in 0..table.count {
+        let record = Record::read(bytes, table, index);
+        if record.is_entry() {
+            list.push(record.start())?;
+        }
+    }
+    Ok(list)
+}

@@ -1,0 +1,75 @@
+//! The pages that segments hold.
+
+ghost use Rattle.std.specs.Prelude.{◌≡◌, ◌&&◌};
+ghost use Rattle.erim_defs.specs.Image.{is_loadable, segments, touches};
+ghost use Rattle.elf_image.specs.Records.{is_held, is_lying, serves};
+ghost use Rattle.elf_image.specs.Table.{HasTable};
+
+use crate::field::header_count;
+use crate::header::Header;
+use crate::record::Record;
+use crate::segment::{PAGE_SIZE, is_executable, is_writable, touches};
+use erim_defs::Segment;
+
+/// What a page is used for.
+#[derive(Clone, Copy)]
+pub(crate) enum Purpose {
+    /// To be executed.
+    Execution,
+    /// To hold trusted text, which is executable and not writable.
+    Text,
+    /// To hold trusted data, which isn't executable.
+    Data,
+    /// To hold a trusted heap, which is writable too.
+    Heap,
+}
+
+fn serves(purpose: Purpose, segment: &Segment) -> bool
+    ensures { result ≡ serves purpose segment.now }
+{
+    match purpose {
+        Purpose::Execution => is_executable(segment),
+        Purpose::Text => is_executable(segment) && !is_writable(segment),
+        Purpose::Data => !is_executable(segment),
+        Purpose::Heap => !is_executable(segment) && is_writable(segment),
+    }
+}
+
+/// Does the page belong to a segment that serves the purpose?
+#[tactic(auto, using(crate::proofs::PageLemmas::held_begins, crate::proofs::PageLemmas::held_stops, crate::proofs::PageLemmas::held_goes_on, crate::proofs::PageLemmas::held_ends))]
+pub(crate) fn is_held(bytes: &[u8], purpose: Purpose, page: u64) -> bool
+    requires { HasTable bytes.now }
+    ensures { result ≡ is_held purpose (segments bytes.now) page }
+{
+    for index in 0..header_count(bytes) {
+        if holds(&Header::read(bytes, index), purpose, page) {
+            return true;
+        }
+    }
+    false
+}
+
+// Does the page belong to the segment of a header, and does it serve the purpose?
+fn holds(header: &Header, purpose: Purpose, page: u64) -> bool
+    ensures { result ≡ (is_loadable header.now && (serves purpose header.now.segment && touches header.now.segment page)) }
+{
+    let segment = header.segment();
+    header.is_loadable() && serves(purpose, &segment) && touches(&segment, page)
+}
+
+/// Do all pages of the record's range belong to segments that serve the purpose? Its range may be huge,
+/// and the first page that doesn't settles the answer.
+#[tactic(auto, using(crate::proofs::PageLemmas::lying_begins, crate::proofs::PageLemmas::are_held_stops, crate::proofs::PageLemmas::are_held_goes_on, crate::proofs::PageLemmas::are_held_ends))]
+pub(crate) fn is_lying(bytes: &[u8], purpose: Purpose, item: &Record) -> bool
+    requires { HasTable bytes.now }
+    ensures { result ≡ is_lying purpose (segments bytes.now) item.now }
+{
+    let first = item.start() / PAGE_SIZE;
+    let end = first + item.length() / PAGE_SIZE;
+    for page in first..end {
+        if !is_held(bytes, purpose, page) {
+            return false;
+        }
+    }
+    true
+}

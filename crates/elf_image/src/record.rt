@@ -1,0 +1,157 @@
+//! A record of the trust note: its kind and its key of 4 bytes each, then start and length of 8.
+
+ghost use Rattle.std.specs.Prelude.{◌≡◌, ◌+◌, ◌%◌, ◌^◌, ◌<◌, ◌==◌, ◌&&◌, nat_le, nat_lt};
+ghost use Rattle.erim_defs.specs.Image.{holds_address, is_entry_record, is_range, is_text, overlaps, span_of};
+ghost use Rattle.elf_image.specs.Notes.{HasTableOf};
+ghost use Rattle.elf_image.specs.Records.{record_of};
+
+use crate::field::{u32_at, u64_at};
+use crate::records::RecordTable;
+use crate::segment::{PAGE_SIZE, USER_TOP};
+use erim_defs::Span;
+use std::marker::Model;
+
+pub(crate) const RECORD_SIZE: usize = 24;
+
+// The places of a record's fields.
+const KEY: usize = 4;
+
+const START: usize = 8;
+
+const LENGTH: usize = 16;
+
+// Kinds of records.
+pub(crate) const TRUSTED_TEXT: u32 = 1;
+
+pub(crate) const TRUSTED_DATA: u32 = 2;
+
+pub(crate) const ENTRY: u32 = 3;
+
+pub(crate) const TRUSTED_HEAP: u32 = 4;
+
+// The one protection key that trusted memory has.
+const TRUSTED_KEY: u32 = 1;
+
+/// A record of the trust note.
+#[derive(Drop)]
+pub(crate) struct Record {
+    kind: u32,
+    key: u32,
+    start: u64,
+    length: u64,
+}
+
+impl Model for Record {
+    ghost use Rattle.erim_defs.specs.Image.{Record as RecordValue};
+
+    ghost Value = { RecordValue };
+
+    ghost view = { λ fields. record { kind = fields.kind; key = fields.key; start = fields.start; length = fields.length } };
+}
+
+impl Record {
+    /// The record of a number.
+    #[tactic(auto, unfolding(crate::specs::Records::record_of))]
+    pub(crate) fn read(bytes: &[u8], table: RecordTable, index: u32) -> Record
+        requires table { HasTableOf bytes.now table }
+        requires index { index < table.count }
+        ensures { result ≡ record_of bytes.now table index }
+    {
+        let place = table.place + RECORD_SIZE * index as usize;
+        Record {
+            kind: u32_at(bytes, place),
+            key: u32_at(bytes, place + KEY),
+            start: u64_at(bytes, place + START),
+            length: u64_at(bytes, place + LENGTH),
+        }
+    }
+
+    pub(crate) fn kind(&self) -> u32
+        ensures { result ≡ self.now.kind }
+    {
+        self.kind
+    }
+
+    pub(crate) fn start(&self) -> u64
+        ensures { result ≡ self.now.start }
+    {
+        self.start
+    }
+
+    pub(crate) fn length(&self) -> u64
+        ensures { result ≡ self.now.length }
+    {
+        self.length
+    }
+
+    pub(crate) fn span(&self) -> Span
+        ensures { result ≡ span_of self.now }
+    {
+        Span {
+            start: self.start,
+            length: self.length,
+        }
+    }
+
+    /// Does it have the key of trusted memory?
+    pub(crate) fn is_keyed(&self) -> bool
+        ensures { result ≡ (self.now.key == 1) }
+    {
+        self.key == TRUSTED_KEY
+    }
+
+    /// Does it tell trusted text?
+    pub(crate) fn is_text(&self) -> bool
+        ensures { result ≡ is_text self.now }
+    {
+        self.kind == TRUSTED_TEXT
+    }
+
+    /// Does it tell an entry?
+    pub(crate) fn is_entry(&self) -> bool
+        ensures { result ≡ is_entry_record self.now }
+    {
+        self.kind == ENTRY
+    }
+
+    /// Does it tell text, data or a heap?
+    pub(crate) fn is_range(&self) -> bool
+        ensures { result ≡ is_range self.now }
+    {
+        self.is_text() || self.kind == TRUSTED_DATA || self.kind == TRUSTED_HEAP
+    }
+
+    /// Is it made of whole pages of user memory?
+    pub(crate) fn is_paged(&self) -> bool
+        ensures { result ≡ (self.now.start % 4096 == 0 && (self.now.length % 4096 == 0 && (nat_lt 0 self.now.length && nat_le (self.now.start + self.now.length) (2 ^ 47)))) }
+    {
+        self.start % PAGE_SIZE == 0
+            && self.length % PAGE_SIZE == 0
+            && self.length > 0
+            && self.length <= USER_TOP
+            && self.start <= USER_TOP - self.length
+    }
+
+    /// Does it overlap with a range of another record?
+    pub(crate) fn overlaps(&self, other: &Record) -> bool
+        ensures { result ≡ overlaps self.now other.now }
+    {
+        other.is_range()
+            && is_below_end(self.start, other.start, other.length)
+            && is_below_end(other.start, self.start, self.length)
+    }
+
+    /// Does its trusted text hold the address?
+    pub(crate) fn holds(&self, address: u64) -> bool
+        ensures { result ≡ holds_address address self.now }
+    {
+        self.is_text() && self.start <= address && is_below_end(address, self.start, self.length)
+    }
+}
+
+// Is the address below the end of a range? The end may pass 2^64.
+fn is_below_end(address: u64, start: u64, length: u64) -> bool
+    ensures { result ≡ nat_lt address (start + length) }
+{
+    address < start || address - start < length
+}

@@ -1,0 +1,149 @@
+//! The rows of faults of the trust note's records.
+
+ghost use Rattle.std.specs.Prelude.{◌≡◌, ◌≤◌, []};
+ghost use Rattle.std.specs.List.{list_any};
+ghost use Rattle.erim_defs.specs.Image.{data_fault, entry_fault, is_placed_data, is_record, overlaps, record_fault, segments, text_fault};
+ghost use Rattle.elf_image.specs.Notes.{HasTableOf};
+ghost use Rattle.elf_image.specs.Records.{is_in_text, record_of, records_fault, seen_before, table_records};
+ghost use Rattle.elf_image.specs.Table.{HasTable};
+
+use crate::pages::{Purpose, is_lying};
+use crate::record::{Record, TRUSTED_DATA, TRUSTED_HEAP};
+use erim_defs::ImageFault;
+
+/// Where the records of a trust note stand, and how many.
+#[derive(Clone, Copy)]
+pub(crate) struct RecordTable {
+    pub(crate) place: usize,
+    pub(crate) count: u32,
+}
+
+/// The first fault of the records.
+#[tactic(auto, unfolding(crate::specs::Records::records_fault))]
+pub(crate) fn records_fault(bytes: &[u8], table: RecordTable) -> Option<ImageFault>
+    requires headers { HasTable bytes.now }
+    requires records { HasTableOf bytes.now table }
+    ensures { result ≡ records_fault bytes.now table }
+{
+    record_fault(bytes, table)
+        .or_else(|| text_fault(bytes, table))
+        .or_else(|| data_fault(bytes, table))
+        .or_else(|| entry_fault(bytes, table))
+}
+
+// The first record with a wrong kind, key, start or length, or that overlaps with an earlier one.
+#[tactic(auto, using(crate::proofs::RecordLemmas::record_begins, crate::proofs::RecordLemmas::record_stops, crate::proofs::RecordLemmas::record_goes_on, crate::proofs::RecordLemmas::record_ends))]
+fn record_fault(bytes: &[u8], table: RecordTable) -> Option<ImageFault>
+    requires { HasTableOf bytes.now table }
+    ensures { result ≡ record_fault 0 [] (table_records bytes.now table) }
+{
+    for index in 0..table.count {
+        let record = Record::read(bytes, table, index);
+        if !is_record(bytes, table, index, &record) {
+            return Some(ImageFault::BadRecord { index });
+        }
+    }
+    None
+}
+
+// Is it a record that may stand behind those before an index?
+fn is_record(bytes: &[u8], table: RecordTable, index: u32, item: &Record) -> bool
+    requires table { HasTableOf bytes.now table }
+    requires index { index ≤ table.count }
+    ensures { result ≡ is_record (seen_before bytes.now table index) item.now }
+{
+    if !item.is_keyed() {
+        return false;
+    }
+    if item.is_entry() {
+        return item.length() == 0;
+    }
+    item.is_range() && item.is_paged() && !overlaps_earlier(bytes, table, index, item)
+}
+
+// Does it overlap with a range of the records before an index?
+#[tactic(auto, using(crate::proofs::RecordLemmas::overlaps_none, crate::proofs::RecordLemmas::overlaps_more))]
+fn overlaps_earlier(bytes: &[u8], table: RecordTable, index: u32, item: &Record) -> bool
+    requires table { HasTableOf bytes.now table }
+    requires index { index ≤ table.count }
+    ensures { result ≡ list_any (overlaps item.now) (seen_before bytes.now table index) }
+{
+    let mut overlaps = false;
+    for earlier in 0..index {
+        overlaps = item.overlaps(&Record::read(bytes, table, earlier)) || overlaps;
+    }
+    overlaps
+}
+
+// The first trusted text outside of segments that are executable and not writable.
+#[tactic(auto, using(crate::proofs::RecordLemmas::text_begins, crate::proofs::RecordLemmas::text_stops, crate::proofs::RecordLemmas::text_goes_on, crate::proofs::RecordLemmas::text_ends))]
+fn text_fault(bytes: &[u8], table: RecordTable) -> Option<ImageFault>
+    requires headers { HasTable bytes.now }
+    requires records { HasTableOf bytes.now table }
+    ensures { result ≡ text_fault 0 (segments bytes.now) (table_records bytes.now table) }
+{
+    for index in 0..table.count {
+        let record = Record::read(bytes, table, index);
+        if record.is_text() && !is_lying(bytes, Purpose::Text, &record) {
+            return Some(ImageFault::TextNotExec { index });
+        }
+    }
+    None
+}
+
+// The first trusted data or heap outside of segments that may hold it.
+#[tactic(auto, using(crate::proofs::RecordLemmas::data_begins, crate::proofs::RecordLemmas::data_stops, crate::proofs::RecordLemmas::data_goes_on, crate::proofs::RecordLemmas::data_ends))]
+fn data_fault(bytes: &[u8], table: RecordTable) -> Option<ImageFault>
+    requires headers { HasTable bytes.now }
+    requires records { HasTableOf bytes.now table }
+    ensures { result ≡ data_fault 0 (segments bytes.now) (table_records bytes.now table) }
+{
+    for index in 0..table.count {
+        if !is_placed_data(bytes, &Record::read(bytes, table, index)) {
+            return Some(ImageFault::DataRange { index });
+        }
+    }
+    None
+}
+
+// Does trusted data or a heap lie where it may?
+#[tactic(auto, unfolding(crate::specs::Records::is_lying))]
+fn is_placed_data(bytes: &[u8], item: &Record) -> bool
+    requires { HasTable bytes.now }
+    ensures { result ≡ is_placed_data (segments bytes.now) item.now }
+{
+    match item.kind() {
+        TRUSTED_DATA => is_lying(bytes, Purpose::Data, item),
+        TRUSTED_HEAP => is_lying(bytes, Purpose::Heap, item),
+        _ => true,
+    }
+}
+
+// The first entry outside of trusted text.
+#[tactic(auto, using(crate::proofs::RecordLemmas::entry_begins, crate::proofs::RecordLemmas::entry_stops, crate::proofs::RecordLemmas::entry_goes_on, crate::proofs::RecordLemmas::entry_ends))]
+fn entry_fault(bytes: &[u8], table: RecordTable) -> Option<ImageFault>
+    requires { HasTableOf bytes.now table }
+    ensures { result ≡ entry_fault 0 (table_records bytes.now table) (table_records bytes.now table) }
+{
+    for index in 0..table.count {
+        let record = Record::read(bytes, table, index);
+        if record.is_entry() && !is_in_text(bytes, table, record.start()) {
+            return Some(ImageFault::EntryNotTrusted { index });
+        }
+    }
+    None
+}
+
+// Does the address lie in trusted text of the table?
+#[tactic(auto, using(crate::proofs::RecordLemmas::in_text_begins, crate::proofs::RecordLemmas::in_text_stops, crate::proofs::RecordLemmas::in_text_goes_on, crate::proofs::RecordLemmas::in_text_ends))]
+fn is_in_text(bytes: &[u8], table: RecordTable, address: u64) -> bool
+    requires { HasTableOf bytes.now table }
+    ensures { result ≡ is_in_text address (table_records bytes.now table) }
+{
+    for index in 0..table.count {
+        if Record::read(bytes, table, index).holds(address) {
+            return true;
+        }
+    }
+    false
+}

@@ -1,0 +1,53 @@
+//! The trusted part of a program.
+
+ghost use Rattle.std.specs.Prelude.{◌≡◌, ◌≤◌, ◌<◌};
+ghost use Rattle.erim_defs.specs.Trust.{in_text_of, is_entry_of};
+
+use std::marker::Model;
+
+/// A range of addresses.
+#[derive(Clone, Copy, Debug, PartialEq, Eq)]
+pub struct Span {
+    /// Its first address.
+    pub start: u64,
+    /// Its number of bytes.
+    pub length: u64,
+}
+
+/// The trusted text of a program, and the addresses at which it may be entered.
+#[derive(Drop)]
+pub struct Trust {
+    texts: Vec<Span>,
+    entries: Vec<u64>,
+}
+
+impl Model for Trust {
+    ghost use Rattle.erim_defs.specs.Trust.{TrustValue};
+
+    ghost Value = { TrustValue };
+
+    ghost view = { λ trust. record { texts = trust.texts.items; entries = trust.entries.items } };
+}
+
+impl Trust {
+    /// The trusted part of these texts and entries.
+    pub fn new(texts: Vec<Span>, entries: Vec<u64>) -> Trust
+        ensures { result ≡ record { texts = texts.items; entries = entries.items } }
+    {
+        Trust { texts, entries }
+    }
+
+    /// Is the address in trusted text?
+    pub fn is_trusted(&self, addr: u64) -> bool
+        ensures { result ≡ in_text_of self.now addr }
+    {
+        self.texts.iter().any(|text| text.start <= addr && addr - text.start < text.length)
+    }
+
+    /// Is the address an entry?
+    pub fn is_entry(&self, addr: u64) -> bool
+        ensures { result ≡ is_entry_of self.now addr }
+    {
+        self.entries.iter().any(|entry| *entry == addr)
+    }
+}
