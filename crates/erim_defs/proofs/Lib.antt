@@ -1,4 +1,5 @@
 pub mod CodeLemmas
+pub mod CountLemmas
 pub mod ImageLemmas
 pub mod OccurrenceLemmas
 pub mod PageLemmas

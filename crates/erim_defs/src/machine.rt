@@ -1,0 +1,110 @@
+//! What the machine is made of: rights of pages, threads, faults, ends, and the entries of a journal.
+
+use crate::found::Found;
+
+/// The rights of a mapped page. `asked` is below 8 and `key` below 16.
+#[derive(Clone, Copy, Debug, PartialEq, Eq)]
+pub struct Rights {
+    /// May it be read?
+    pub read: bool,
+    /// May it be written?
+    pub write: bool,
+    /// Is it published, so that its bytes can be fetched?
+    pub exec: bool,
+    /// The protection bits that were last asked: PROT_READ 1, PROT_WRITE 2, PROT_EXEC 4.
+    pub asked: u8,
+    /// Its protection key.
+    pub key: u8,
+}
+
+/// The flags that instructions compute (SDM volume 1, "EFLAGS register").
+#[derive(Clone, Copy, Debug, PartialEq, Eq)]
+pub struct Flags {
+    pub cf: bool,
+    pub pf: bool,
+    pub zf: bool,
+    pub sf: bool,
+    pub of: bool,
+}
+
+/// A thread. Registers are RAX RCX RDX RBX RSP RBP RSI RDI R8 to R15.
+#[derive(Clone, Copy, Debug, PartialEq, Eq)]
+pub struct Thread {
+    pub regs: [u64; 16],
+    pub rip: u64,
+    pub flags: Flags,
+    /// What its protection keys permit (SDM volume 3A, "Protection keys").
+    pub pkru: u32,
+    /// The sequence by which it opened the trusted key and that it hasn't left behind yet.
+    pub origin: Option<Found>,
+    /// Has it not ended yet?
+    pub live: bool,
+}
+
+/// Why an instruction, an access or a fetch faults.
+#[derive(Clone, Copy, Debug, PartialEq, Eq)]
+pub enum Cause {
+    /// No page is mapped there, or it is no user address.
+    Unmapped,
+    /// The page may not be read.
+    Read,
+    /// The page may not be written.
+    Write,
+    /// PKRU forbids it.
+    Key,
+    /// The page may not be fetched from.
+    Exec,
+    /// The bytes are no instruction.
+    Undefined,
+    /// The instruction's own conditions don't hold.
+    General,
+}
+
+/// Why an access stops.
+#[derive(Clone, Copy, Debug, PartialEq, Eq)]
+pub enum Access {
+    /// It faults, at this address.
+    Fault { cause: Cause, addr: u64 },
+    /// The memory doesn't hold this page.
+    Missing { page: u64 },
+}
+
+/// How a process ends.
+#[derive(Clone, Copy, Debug, PartialEq, Eq)]
+pub enum End {
+    /// By its own call.
+    Exit {
+        code: u8,
+    },
+    /// By a fault of a thread at this RIP. `addr` is the address that faulted.
+    Fault {
+        thread: u8,
+        rip: u64,
+        cause: Cause,
+        addr: u64,
+    },
+    /// A page wasn't published, for this first unsafe sequence.
+    Refused {
+        page: u64,
+        found: Found,
+        thread: u8,
+    },
+}
+
+/// The first step by which a thread left trusted text open and other than by a gate.
+#[derive(Clone, Copy, Debug, PartialEq, Eq)]
+pub struct Escape {
+    /// The step, counted from 1.
+    pub step: u32,
+    pub thread: u8,
+    /// Where the thread stood afterwards.
+    pub rip: u64,
+}
+
+/// So many steps of a thread, made by a worker.
+#[derive(Clone, Copy, Debug, PartialEq, Eq)]
+pub struct Entry {
+    pub worker: u16,
+    pub thread: u16,
+    pub count: u32,
+}

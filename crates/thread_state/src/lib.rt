@@ -1,0 +1,38 @@
+//! What the PKRU of a thread permits.
+#![tactic(auto)]
+
+ghost use Rattle.std.specs.Prelude.{◌≡◌, ◌<◌, ◌&&◌};
+ghost use Rattle.erim_defs.specs.Access.{opens, opens_write};
+
+use erim_defs::Rights;
+pub use erim_defs::Thread;
+
+/// Is the access-disable bit of a protection key clear? A key is below 16.
+#[tactic(auto, unfolding(erim_defs::specs::Access::opens))]
+pub fn opens(pkru: u32, key: u8) -> bool
+    requires { key < 16 }
+    ensures { result ≡ opens pkru key }
+{
+    (pkru >> (2 * key as u32)) % 2 == 0
+}
+
+/// May a page with these rights be read?
+#[tactic(auto, unfolding(erim_defs::specs::Access::opens))]
+pub fn may_read(pkru: u32, rights: &Rights) -> bool
+    requires { rights.now.key < 16 }
+    ensures { result ≡ (rights.now.read && opens pkru rights.now.key) }
+{
+    rights.read && opens(pkru, rights.key)
+}
+
+/// May a page with these rights be written? Both bits of its key have to be clear.
+#[tactic(auto, unfolding(erim_defs::specs::Access::opens_write))]
+pub fn may_write(pkru: u32, rights: &Rights) -> bool
+    requires { rights.now.key < 16 }
+    ensures { result ≡ (rights.now.write && opens_write pkru rights.now.key) }
+{
+    rights.write && (pkru >> (2 * rights.key as u32)) % 4 == 0
+}
+
+#[cfg(test)]
+mod tests;

@@ -1,0 +1,136 @@
+-- The code's order and the table are one: computed by the checker.
+use Rattle.std.proofs.Common.{◌≡◌, ℕ, ◌<◌, Bool, true, false, ◌||◌, not, nat_lt, if◌then◌else◌, List, Option, refl, sym, subst, ◌∙◌}
+use Rattle.std.proofs.lemmas.Bool.{ltb-true}
+use Rattle.erim_defs.specs.declared.grammar.Row.{Row}
+use Rattle.erim_defs.specs.Rows.{Line, lines, lookup, in_line, has_modrm, same_bool}
+use Rattle.x86_decode.specs.Coded.{one_coded, two_coded, one_modrm, two_modrm}
+use Rattle.x86_decode.specs.Decoding.{asks_at}
+use Rattle.erim_defs.specs.Grammar.{In}
+use Rattle.x86_decode.proofs.Lines.{every, fitting, pick, picks, pick_is, picks_is, hits, every_in, same_true}
+use Rattle.x86_decode.proofs.Tables.{table, tabulated}
+
+-- the row that the code finds
+abbrev pub coded : Bool → Bool → Bool → ℕ → ℕ → Option Row
+coded escape f3 w op m = if escape then two_coded f3 op m else one_coded f3 w op m
+
+abbrev Coded : Bool → Bool → Bool → Type 0
+Coded escape f3 w = table (λ op. table (pick (fitting lines escape f3 w op)) 256) 256 ≡ table (λ op. table (coded escape f3 w op) 256) 256
+
+coded_ttt : Coded true true true
+unfolding one_coded two_coded
+coded_ttt = refl
+
+coded_ttf : Coded true true false
+unfolding one_coded two_coded
+coded_ttf = refl
+
+coded_tft : Coded true false true
+unfolding one_coded two_coded
+coded_tft = refl
+
+coded_tff : Coded true false false
+unfolding one_coded two_coded
+coded_tff = refl
+
+coded_ftt : Coded false true true
+unfolding one_coded two_coded
+coded_ftt = refl
+
+coded_ftf : Coded false true false
+unfolding one_coded two_coded
+coded_ftf = refl
+
+coded_fft : Coded false false true
+unfolding one_coded two_coded
+coded_fft = refl
+
+coded_fff : Coded false false false
+unfolding one_coded two_coded
+coded_fff = refl
+
+coded_table : (escape f3 w : Bool) → Coded escape f3 w
+coded_table true true true = coded_ttt
+coded_table true true false = coded_ttf
+coded_table true false true = coded_tft
+coded_table true false false = coded_tff
+coded_table false true true = coded_ftt
+coded_table false true false = coded_ftf
+coded_table false false true = coded_fft
+coded_table false false false = coded_fff
+
+pub coded_is : (escape f3 w : Bool) (op m : ℕ) → op < 256 → m < 256 → lookup lines escape f3 w op m ≡ coded escape f3 w op m
+coded_is escape f3 w op m p q =
+    sym (pick_is lines escape f3 w op m) ∙
+    tabulated (pick (fitting lines escape f3 w op)) (coded escape f3 w op) 256
+    (tabulated (λ n. table (pick (fitting lines escape f3 w n)) 256) (λ n. table (coded escape f3 w n) 256) 256 (coded_table escape f3 w) op p) m q
+
+abbrev few_of : List Line → List Bool
+few_of ls = table (λ m. nat_lt (picks ls m) 2) 256
+
+abbrev Few : Bool → Bool → Bool → Type 0
+Few escape f3 w = table (λ op. few_of (fitting lines escape f3 w op)) 256 ≡ table (λ op. table (λ m. true) 256) 256
+
+few_ttt : Few true true true
+few_ttt = refl
+
+few_ttf : Few true true false
+few_ttf = refl
+
+few_tft : Few true false true
+few_tft = refl
+
+few_tff : Few true false false
+few_tff = refl
+
+few_ftt : Few false true true
+few_ftt = refl
+
+few_ftf : Few false true false
+few_ftf = refl
+
+few_fft : Few false false true
+few_fft = refl
+
+few_fff : Few false false false
+few_fff = refl
+
+few_table : (escape f3 w : Bool) → Few escape f3 w
+few_table true true true = few_ttt
+few_table true true false = few_ttf
+few_table true false true = few_tft
+few_table true false false = few_tff
+few_table false true true = few_ftt
+few_table false true false = few_ftf
+few_table false false true = few_fft
+few_table false false false = few_fff
+
+-- no two lines fit
+pub few : (escape f3 w : Bool) (op m : ℕ) → op < 256 → m < 256 → hits lines escape f3 w op m < 2
+few escape f3 w op m p q =
+    let P : ℕ → Type 0 = λ n. n < 2 in
+    subst P (picks_is lines escape f3 w op m) (ltb-true (picks (fitting lines escape f3 w op) m) 2
+    (tabulated (λ m. nat_lt (picks (fitting lines escape f3 w op) m) 2) (λ m. true) 256
+    (tabulated (λ n. few_of (fitting lines escape f3 w n)) (λ n. table (λ m. true) 256) 256 (few_table escape f3 w) op p) m q))
+
+abbrev kind_fits : Bool → ℕ → Line → Bool
+kind_fits escape op line = not (in_line line escape op) || same_bool (has_modrm line.ask) (asks_at escape op)
+
+kind_table : (escape : Bool) → table (λ op. every (kind_fits escape op) lines) 256 ≡ table (λ op. true) 256
+unfolding asks_at one_modrm two_modrm
+kind_table true = refl
+kind_table false = refl
+
+-- the lines of an opcode all have ModRM, or none
+pub kind : (line : Line) (escape : Bool) (op : ℕ) → op < 256 → In lines line → in_line line escape op ≡ true → has_modrm line.ask ≡ asks_at escape op
+kind line escape op p i e =
+    let all : every (kind_fits escape op) lines ≡ true = tabulated (λ n. every (kind_fits escape n) lines) (λ n. true) 256 (kind_table escape) op p in
+    let here : kind_fits escape op line ≡ true = every_in (kind_fits escape op) lines line all i in
+    same_true (has_modrm line.ask) (asks_at escape op) (left_false (in_line line escape op) (same_bool (has_modrm line.ask) (asks_at escape op)) e here)
+  where
+    left_false : (a b : Bool) → a ≡ true → (not a || b) ≡ true → b ≡ true
+    left_false true b p q = q
+    left_false false b p q = absurd cc
+
+-- no line of one byte has the opcode 0F
+pub not_escape : (line : Line) → In lines line → (not (in_line line false 0x0F)) ≡ true
+not_escape line i = every_in (λ (l : Line). not (in_line l false 0x0F)) lines line refl i

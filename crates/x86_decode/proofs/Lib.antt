@@ -1,0 +1,13 @@
+pub mod Parts
+pub mod Operands
+pub mod Tables
+pub mod Lines
+pub mod Agree
+pub mod Tails
+pub mod Bodies
+pub mod Stops
+pub mod Whole
+pub mod Spelled
+pub mod Function
+pub mod Spellings
+pub mod Lengths

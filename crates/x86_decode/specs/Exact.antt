@@ -1,0 +1,36 @@
+-- When reading answers a part of a spelling exactly. Own.
+use Rattle.std.specs.Prelude.{◌≡◌, ℕ, ◌+◌, ◌<◌, ◌≤◌, List, ◌++◌, length, Result, Ok, Err}
+use Rattle.x86_decode.specs.declared.reading.Stop.{Stop}
+use Rattle.x86_decode.specs.declared.reading.Stop.TheVariants.{Undefined, Short}
+
+-- a text of the part meets these bytes: it begins them, or they begin it
+pub record Meets {A : Type 0} (R : List ℕ → A → Type 0) (bytes text : List ℕ) (a : A) : Type 0 where
+  pub spelled : R text a
+  pub after : List ℕ
+  pub rest : List ℕ
+  pub same : bytes ++ after ≡ text ++ rest
+
+-- a text begins the bytes, and rest comes after it
+pub record Begins {A : Type 0} (R : List ℕ → A → Type 0) (bytes : List ℕ) (a : A) (rest : List ℕ) : Type 0 where
+  pub text : List ℕ
+  pub spelled : R text a
+  pub parts : bytes ≡ text ++ rest
+
+-- the bytes begin texts of the part, and the shortest of these has n more
+pub record Wants {A : Type 0} (R : List ℕ → A → Type 0) (bytes : List ℕ) (n : ℕ) : Type 0 where
+  pub more : 0 < n
+  pub tail : List ℕ
+  pub value : A
+  pub spelled : R (bytes ++ tail) value
+  pub long : length tail ≡ n
+  pub least : (text : List ℕ) (a : A) → Meets R bytes text a → length bytes + n ≤ length text
+
+-- what reading gave is a text that begins the bytes, and a stop is right
+abbrev pub Exact : {A : Type 0} → (List ℕ → A → Type 0) → List ℕ → Result (A × List ℕ) Stop → Type 0
+Exact R bytes (Ok x) = Begins R bytes x.0 x.1
+Exact {A} R bytes (Err Undefined) = (text : List ℕ) (a : A) → Meets R bytes text a → ⊥
+Exact R bytes (Err (Short n)) = Wants R bytes n
+
+-- no text begins another, and a text has one meaning
+pub record IsFree {A : Type 0} (R : List ℕ → A → Type 0) : Type 0 where
+  pub one : (t u : List ℕ) (a b : A) (x y : List ℕ) → R t a → R u b → t ++ x ≡ u ++ y → (t ≡ u) × (a ≡ b)

@@ -1,0 +1,122 @@
+//! The operand that a ModRM byte names.
+
+ghost use Rattle.std.specs.Prelude.{◌≡◌, ◌<◌};
+ghost use Rattle.erim_defs.specs.Operand.{extended, has_sib, disp_size, sib_mem, place_of};
+ghost use Rattle.x86_decode.specs.Reading.{Gives, sib_at, operand_at};
+
+use crate::reading::{Stop, byte, chunk, signed_of};
+use erim_defs::grammar::Rex;
+use erim_defs::{Base, Mem, Place};
+
+/// A register's number with its bit of REX.
+#[tactic(auto, unfolding(erim_defs::specs::Operand::extended))]
+pub fn extend(bit: bool, n: u8) -> u8
+    requires { n < 8 }
+    ensures { result ≡ extended bit n }
+{
+    if bit { n + 8 } else { n }
+}
+
+/// Whether a SIB byte follows.
+#[tactic(auto, unfolding(erim_defs::specs::Operand::has_sib))]
+pub fn asks_sib(m: u8) -> bool
+    ensures { result ≡ has_sib m }
+{
+    m / 64 != 3 && m % 8 == 4
+}
+
+/// Bytes of the displacement.
+#[tactic(auto, unfolding(erim_defs::specs::Operand::disp_size))]
+pub fn disp_len(m: u8, sib: u8) -> u8
+    ensures size { result ≡ disp_size m sib }
+    ensures low { result < 5 }
+{
+    match m / 64 {
+        0 => {
+            if m % 8 == 5 || m % 8 == 4 && sib % 8 == 5 {
+                4
+            } else {
+                0
+            }
+        }
+        1 => 1,
+        2 => 4,
+        _ => 0,
+    }
+}
+
+/// The memory that a SIB byte names.
+#[tactic(auto, unfolding(erim_defs::specs::Operand::sib_mem))]
+fn sib_memory(rex: Rex, mode: u8, sib: u8, disp: i32) -> Mem
+    ensures { result ≡ sib_mem rex mode sib disp }
+{
+    let index = extend(rex.x, sib / 8 % 8);
+    let base = if mode == 0 && sib % 8 == 5 {
+        Base::Zero
+    } else {
+        Base::Reg(extend(rex.b, sib % 8))
+    };
+    if index == 4 {
+        Mem {
+            base,
+            index: None,
+            scale: 0,
+            disp,
+        }
+    } else {
+        Mem {
+            base,
+            index: Some(index),
+            scale: sib / 64,
+            disp,
+        }
+    }
+}
+
+/// The place that ModRM, SIB and displacement name.
+#[tactic(auto, unfolding(erim_defs::specs::Operand::place_of))]
+fn place(rex: Rex, m: u8, sib: u8, disp: i32) -> Place
+    ensures { result ≡ place_of rex m sib disp }
+{
+    if m / 64 == 3 {
+        return Place::Reg(extend(rex.b, m % 8));
+    }
+    if m % 8 == 4 {
+        return Place::At(sib_memory(rex, m / 64, sib, disp));
+    }
+    let base = if m / 64 == 0 && m % 8 == 5 {
+        Base::Rip
+    } else {
+        Base::Reg(extend(rex.b, m % 8))
+    };
+    Place::At(Mem {
+        base,
+        index: None,
+        scale: 0,
+        disp,
+    })
+}
+
+/// The SIB byte, or 0 where there is none.
+#[tactic(auto, unfolding(crate::specs::Reading::sib_at))]
+fn sib(m: u8, least: u8, bytes: &[u8]) -> Result<(u8, &[u8]), Stop>
+    requires { least < 16 }
+    ensures { Gives (λ x. (x.0, x.1.now)) result (sib_at m least bytes.now) }
+{
+    if asks_sib(m) {
+        byte(bytes, Stop::Short(1 + (disp_len(m, 0) + least)))
+    } else {
+        Ok((0, bytes))
+    }
+}
+
+/// The operand of a ModRM byte `m`. `least` is what an instruction needs after it.
+#[tactic(auto, unfolding(crate::specs::Reading::operand_at))]
+pub fn operand(rex: Rex, m: u8, least: u8, bytes: &[u8]) -> Result<(Place, &[u8]), Stop>
+    requires { least < 16 }
+    ensures { Gives (λ x. (x.0, x.1.now)) result (operand_at rex m least bytes.now) }
+{
+    let (sib, rest) = sib(m, least, bytes)?;
+    let (disp, rest) = chunk(rest, disp_len(m, sib), least)?;
+    Ok((place(rex, m, sib, signed_of(disp)), rest))
+}
