@@ -114,7 +114,8 @@ impl Image {
     /// How many pages all segments touch.
     #[tactic(auto, unfolding(erim_defs::specs::Image::page_total))]
     pub fn pages(&self) -> u32
-        ensures { result ≡ page_total self.now }
+        ensures value { result ≡ page_total self.now }
+        ensures few { result ≤ 4080 }
     {
         page_sum(&self.segments) as u32
     }

@@ -3,5 +3,4 @@ pub mod InspectLemmas
 pub mod ListingLemmas
 pub mod PromiseLemmas
 pub mod ResultLemmas
-pub mod RunLemmas
 pub mod TextLemmas

@@ -17,10 +17,10 @@ use Rattle.erim_defs.proofs.CodeLemmas.{laid_at_before, laid_at_past}
 use Rattle.erim_defs.proofs.OccurrenceLemmas.{occurrence_absent}
 use Rattle.erim_defs.proofs.PageLemmas.{code_of_absent}
 use Rattle.erim_defs.proofs.UnsafeLemmas.{found_below_gap, found_below_next, found_below_none, found_below_split, unsafe_absent, unsafe_agrees, unsafe_list_from_below}
+use Rattle.code_runs.specs.declared.runs.Run.{Run}
+use Rattle.code_runs.specs.Runs.{IsRun, LaysRun, NoneBetween}
 use Rattle.erim_cli.specs.declared.listing.Listing.{Listing}
-use Rattle.erim_cli.specs.declared.runs.Run.{Run}
 use Rattle.erim_cli.specs.Listing.{Lists, ListsMore}
-use Rattle.erim_cli.specs.Runs.{IsRun, LaysRun, NoneBetween}
 
 -- all that is unsafe below base + from was added, and no more than one at a place
 pub record IsScannedTo (old new : Listing) (entries : Entries) (c : Code) (base from places : ℕ) : Type 0 where

@@ -3,5 +3,4 @@ pub mod Delivery
 pub mod Listing
 pub mod Promises
 pub mod Replies
-pub mod Runs
 pub mod Statuses

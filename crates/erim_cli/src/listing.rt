@@ -7,12 +7,11 @@ ghost use Rattle.erim_defs.specs.Occurrence.{occurrence_at};
 ghost use Rattle.erim_defs.specs.Safe.{unsafe_at};
 ghost use Rattle.erim_defs.specs.Trust.{is_entry_of};
 ghost use Rattle.erim_defs.specs.Unsafe.{found_below, listed, unsafe_list};
+ghost use Rattle.code_runs.specs.Runs.{IsPlaced, IsRun};
 ghost use Rattle.erim_cli.specs.Listing.{Lists, ListsMore, Shows};
-ghost use Rattle.erim_cli.specs.Runs.{IsPlaced, IsRun};
 
-use crate::loading::run_bytes;
-use crate::runs::{PAGE_SIZE, Run, next_run};
 use crate::text::push_unsafe_line;
+use code_runs::{PAGE_SIZE, Run, next_run, run_bytes};
 use erim_defs::{Found, NoMemory, Segment, Trust};
 use sequence_scan::{is_safe, next_sequence};
 use std::alloc::Global;

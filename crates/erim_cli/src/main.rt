@@ -3,10 +3,8 @@
 
 mod inspect;
 mod listing;
-mod loading;
 mod plain;
 mod reply;
-mod runs;
 mod text;
 mod words;
 

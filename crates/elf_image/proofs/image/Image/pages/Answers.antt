@@ -11,3 +11,9 @@ pub overflow_cast-result : goal.overflow_cast-result
 overflow_cast-result c =
     let few = few_pages _ _ c.self.invariant.accepted (c.deref.ensures.value ∙ c.self.invariant.list_is) in
     omega (arith, few)
+
+pub returns-clause-few : goal.returns-clause-few
+returns-clause-few c =
+    let few = few_pages _ _ c.self.invariant.accepted (c.deref.ensures.value ∙ c.self.invariant.list_is) in
+    let sum = c.page_sum.ensures in
+    omega (arith, few, sum)

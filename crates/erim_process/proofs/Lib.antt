@@ -1,0 +1,12 @@
+pub mod FetchLemmas
+pub mod ReadableLemmas
+pub mod WriteLemmas
+pub mod ArithmeticLemmas
+pub mod CallLemmas
+pub mod RunLemmas
+pub mod LoadLemmas
+pub mod SegmentLemmas
+pub mod PartLemmas
+pub mod PublishLemmas
+pub mod ProcessLemmas
+pub mod StartLemmas

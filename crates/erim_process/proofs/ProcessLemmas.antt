@@ -1,0 +1,56 @@
+-- What contracts see of a process's fields.
+use Rattle.std.proofs.Common.{Result, Ok, Err, IsOk, is_ok, cond, ◌+◌, get_or, length, ◌<◌, zero, suc, ◌≡◌, ℕ, List, [], ◌∷◌, ◌++◌, Option, Some, refl, sym, ap, ◌∙◌, arith}
+use Rattle.erim_defs.specs.declared.machine.Entry.{Entry}
+use Rattle.erim_defs.specs.State.{Setup, State}
+use Rattle.erim_defs.specs.Step.{step}
+use Rattle.erim_defs.specs.Replay.{replay, replay_from, steps_of, then_}
+use Rattle.page_store.specs.declared.memory.Memory.{Ghosts}
+use Rattle.page_store.specs.declared.page_list.PageList.{PageList}
+use Rattle.erim_process.specs.declared.machine.Machine.{Machine}
+use Rattle.erim_process.specs.Machine.{machine_state}
+use Rattle.erim_process.specs.Recorded.{Recorded, state_of, IsRun}
+use Rattle.erim_process.specs.Replayed.{recorded, setup_of, IsReplay}
+use Rattle.erim_process.specs.declared.process.Process.TheInside.{Inside}
+
+pub state_is : (v : Recorded) (s : State) → replay v.setup v.journal ≡ Some s → state_of v ≡ s
+unfolding state_of
+state_is v s h = rw h refl
+
+-- the state that contracts speak of is that of the fields
+pub state_seen : (g : Ghosts PageList) (p : Inside) (v : Recorded) → recorded p ≡ v → IsReplay g p → state_of v ≡ machine_state g (setup_of p.setup) p.machine
+state_seen g p v e h = state_is v (machine_state g (setup_of p.setup) p.machine) (ap (λ (w : Recorded). replay w.setup w.journal) (sym e) ∙ h.replayed)
+
+pub fields_run : (setup : Setup) (entries : List Entry) (s : State) → replay setup entries ≡ Some s → IsRun (record { setup = setup; journal = entries })
+fields_run setup entries s h = h ∙ ap Some (sym (state_is (record { setup = setup; journal = entries }) s h))
+
+then_same : {X Y : Type 0} (o : Option X) (x : X) (f : X → Option Y) → o ≡ Some x → then_ o f ≡ f x
+then_same o x f e = rw e refl
+
+replay_one : (o : Option State) (entries : List Entry) (e : Entry) → replay_from o (entries ++ e ∷ []) ≡ then_ (replay_from o entries) (steps_of e.thread e.count)
+replay_one o [] e = refl
+replay_one o (x ∷ xs) e = replay_one (then_ o (steps_of x.thread x.count)) xs e
+
+-- one step more
+pub replay_made : (setup : Setup) (entries : List Entry) (worker t : ℕ) (s new : State) → replay setup entries ≡ Some s → step t s ≡ Some new
+    → replay setup (entries ++ record { worker = worker; thread = t; count = 1 } ∷ []) ≡ Some new
+unfolding replay steps_of
+replay_made setup entries worker t s new h k =
+    let e : Entry = record { worker = worker; thread = t; count = 1 } in
+    replay_one _ entries e ∙ then_same _ s (steps_of t 1) h ∙ then_same _ new (steps_of t 0) k
+
+pub push_len : {T E : Type 0} (r : Result T E) (n m : ℕ) → IsOk r → m ≡ cond (is_ok r) (n + 1) n → m ≡ n + 1
+push_len (Ok x) n m h e = e
+push_len (Err x) n m h e = cc
+
+pub get_or_any : {X : Type 0} (xs : List X) (i : ℕ) (d e : X) → i < length xs → get_or xs i d ≡ get_or xs i e
+get_or_any [] i d e h = absurd (omega arith)
+get_or_any (x ∷ xs) zero d e h = refl
+get_or_any (x ∷ xs) (suc i) d e h = get_or_any xs i d e (omega arith)
+
+-- the journal with the step that was made leads to the new fields
+pub replay_goes : (g : Ghosts PageList) (p : Inside) (m : Machine PageList) (t worker : ℕ) (entries : List Entry) → IsReplay g p
+    → step t (machine_state g (setup_of p.setup) p.machine) ≡ Some (machine_state g (setup_of p.setup) m)
+    → entries ≡ p.journal.items ++ record { worker = worker; thread = t; count = 1 } ∷ []
+    → replay (setup_of p.setup) entries ≡ Some (machine_state g (setup_of p.setup) m)
+replay_goes g p m t worker entries h k e =
+    ap (λ (es : List Entry). replay (setup_of p.setup) es) e ∙ replay_made (setup_of p.setup) p.journal.items worker t (machine_state g (setup_of p.setup) p.machine) (machine_state g (setup_of p.setup) m) h.replayed k

@@ -1,0 +1,21 @@
+use Rattle.std.proofs.Common.{sym, ◌∙◌, arith}
+use Rattle.erim_process.specs.Replayed.{setup_of}
+use Rattle.erim_process.proofs.StartLemmas.{start_room, start_tame, replay_start}
+use Rattle.erim_process.proofs.process.Process.start.Goals as goal
+
+pub load_machine-requires : goal.load_machine-requires
+load_machine-requires c = start_room (setup_of c.args.setup) c.in_ok-check_start.ensures
+
+pub invariant_of-result : goal.invariant_of-result
+invariant_of-result c =
+    let setup = setup_of c.args.setup in
+    record {
+      replayed = replay_start setup c.in_ok-journal.journal.items _ c.in_ok-journal.ensures.items c.in_ok-machine.ensures.state;
+      counted = c.in_ok-machine.ensures.fresh.0 ∙ sym c.in_ok-journal.ensures.len;
+      room = (let e = c.in_ok-journal.ensures.exact in omega (arith, e));
+      within = (let none = c.in_ok-machine.ensures.fresh.0 in omega (arith, none));
+      accepted = c.in_ok-machine.ensures.accepted;
+      tame = start_tame setup c.in_ok-check_start.ensures;
+      roomy = c.in_ok-machine.ensures.roomy;
+      few = (let one = c.in_ok-machine.ensures.fresh.1 in omega (arith, one));
+    }

@@ -1,0 +1,30 @@
+-- What always holds of a process.
+use Rattle.std.specs.Prelude.{◌≡◌, ◌≤◌, Some, length, vec_len, vec_capacity}
+use Rattle.erim_defs.specs.Image.{IsAccepted}
+use Rattle.erim_defs.specs.State.{Setup}
+use Rattle.erim_defs.specs.Replay.{replay}
+use Rattle.page_store.specs.declared.memory.Memory.{Ghosts}
+use Rattle.page_store.specs.declared.page_list.PageList.{PageList}
+use Rattle.erim_process.specs.Machine.{machine_state, IsRoomy}
+use Rattle.erim_process.specs.Recorded.{Recorded}
+use Rattle.erim_process.specs.Stepping.{IsTame}
+use Rattle.erim_process.specs.declared.setup.Setup.{Setup as Given}
+use Rattle.erim_process.specs.declared.process.Process.TheInside.{Inside}
+
+-- a setup as definitions speak of it
+abbrev pub setup_of : Given → Setup
+setup_of s = record { image = s.image; budget = s.budget; frames = s.frames }
+
+abbrev pub recorded : Inside → Recorded
+recorded p = record { setup = setup_of p.setup; journal = p.journal.items }
+
+-- the fields are the state that the journal leads to
+pub record IsReplay (g : Ghosts PageList) (p : Inside) : Type 0 where
+  pub replayed : replay (setup_of p.setup) p.journal.items ≡ Some (machine_state g (setup_of p.setup) p.machine)
+  pub counted : p.machine.steps ≡ vec_len p.journal
+  pub room : p.setup.budget ≤ vec_capacity p.journal
+  pub within : p.machine.steps ≤ p.setup.budget
+  pub accepted : IsAccepted p.setup.image
+  pub tame : IsTame (setup_of p.setup)
+  pub roomy : IsRoomy p.machine
+  pub few : length p.machine.threads.items ≤ 16

@@ -1,0 +1,14 @@
+//! The state of a machine.
+
+use erim_defs::{End, Escape, Thread};
+
+/// Pages, threads, output, and how the process ended.
+#[derive(Drop)]
+pub struct Machine<P> {
+    pub pages: P,
+    pub threads: Vec<Thread>,
+    pub output: Vec<u8>,
+    pub end: Option<End>,
+    pub steps: u32,
+    pub escape: Option<Escape>,
+}

@@ -1,0 +1,174 @@
+//! A machine with the journal of its steps.
+
+ghost use Rattle.std.specs.Prelude.{◌≡◌, ◌≢◌, ◌↔◌, IsTrue, ℕ, ◌+◌, ◌*◌, ◌/◌, ◌%◌, IsSome, slice_index, ◌<◌, ◌≤◌, ◌++◌, ◌∷◌, ◌⊎◌, [], Some, None, IfOk, IfErr, length, slice_index_or};
+ghost use Rattle.erim_defs.specs.declared.machine.Thread.{Thread};
+ghost use Rattle.erim_defs.specs.Pages.{word};
+ghost use Rattle.erim_defs.specs.Step.{step};
+ghost use Rattle.erim_process.specs.Recorded.{Recorded, state_of, IsRun};
+ghost use Rattle.erim_process.specs.Replayed.{setup_of};
+ghost use Rattle.erim_process.specs.Starting.{start_fault};
+ghost use Rattle.erim_process.specs.Stepping.{answer};
+
+use crate::machine::Machine;
+use crate::setup::Setup;
+use crate::start_fault::StartFault;
+use crate::starting::{check_start, load_machine};
+use crate::stepped::Stepped;
+use erim_defs::{End, Entry, Escape, Rights, Thread};
+use page_store::{Memory, PageCopy, PageList, Pages};
+use std::alloc::Global;
+use std::marker::Model;
+
+/// A process. Contracts see it as its setup and its journal, whose replay is its state.
+#[derive(Drop)]
+pub struct Process {
+    setup: Setup,
+    machine: Machine<PageList>,
+    journal: Vec<Entry>,
+}
+
+impl Model for Process {
+    ghost use Rattle.erim_process.specs.Recorded.{Recorded};
+
+    ghost Value = { Recorded };
+
+    ghost use Rattle.erim_process.specs.Replayed.{recorded, IsReplay};
+
+    ghost view = { λ p. recorded p };
+
+    ghost invariant = { λ p. IsReplay ⟦<PageList as Memory>⟧ p };
+}
+
+impl Process {
+    /// A process at its start. It takes all its memory here, room for the journal's entries among it.
+    pub fn start(alloc: Global, setup: Setup) -> Result<Process, StartFault>
+        ensures started { IfOk result (λ process. (start_fault (setup_of setup) ≡ None) × (process ≡ record { setup = setup_of setup; journal = [] })) }
+        ensures refused { IfErr result (λ fault. (fault ≡ StartFault.Memory) ⊎ (start_fault (setup_of setup) ≡ Some fault)) }
+    {
+        check_start(alloc, &setup)?;
+        let machine = load_machine(alloc, &setup)?;
+        let journal = Vec::with_capacity(alloc, setup.budget as usize)?;
+        Ok(Process {
+            setup,
+            machine,
+            journal,
+        })
+    }
+
+    /// The steps that were made.
+    pub fn steps(&self) -> u32
+        ensures { result ≡ (state_of self.now).steps }
+    {
+        self.machine.steps
+    }
+
+    /// The rights of a page.
+    pub fn rights(&self, page: u64) -> Option<Rights>
+        ensures { result ≡ (state_of self.now).rights page }
+    {
+        self.machine.pages.rights(page)
+    }
+
+    /// The entries of the steps that were made.
+    pub fn journal(&self) -> &[Entry]
+        ensures { result.now ≡ self.now.journal }
+    {
+        self.journal.as_slice()
+    }
+
+    /// How the process ended, if it has.
+    pub fn end(&self) -> Option<End>
+        ensures { result ≡ (state_of self.now).end }
+    {
+        self.machine.end
+    }
+
+    /// The first escape, if there was one.
+    pub fn escape(&self) -> Option<Escape>
+        ensures { result ≡ (state_of self.now).escape }
+    {
+        self.machine.escape
+    }
+
+    /// What was written.
+    pub fn output(&self) -> &[u8]
+        ensures { result.now ≡ (state_of self.now).output }
+    {
+        self.machine.output.as_slice()
+    }
+
+    /// What the process was started with.
+    pub fn setup(&self) -> &Setup
+        ensures { setup_of result.now ≡ self.now.setup }
+    {
+        &self.setup
+    }
+
+    /// Was the process started with the same bytes, budget and frames?
+    pub fn same_setup(&self, other: &Setup) -> bool
+        ensures { IsTrue result ↔ (self.now.setup ≡ setup_of other.now) }
+    {
+        self.setup.image.bytes() == other.image.bytes()
+            && self.setup.budget == other.budget
+            && self.setup.frames == other.frames
+    }
+
+    /// How many threads there have been.
+    pub fn thread_count(&self) -> u8
+        ensures count { result ≡ length (state_of self.now).threads }
+        ensures few { result ≤ 16 }
+    {
+        self.machine.threads.as_slice().len() as u8
+    }
+
+    /// A thread, ended ones included.
+    pub fn thread(&self, thread: u8) -> Thread
+        requires { thread < length (state_of self.now).threads }
+        ensures { (d : Thread) → result ≡ slice_index_or (state_of self.now).threads thread d }
+    {
+        self.machine.threads[thread as usize]
+    }
+
+    /// Copies a page: no rights and zeros where it isn't mapped.
+    pub fn copy_page(&self, page: u64, into: &mut PageCopy)
+        ensures page { into.new.page ≡ page }
+        ensures rights { into.new.rights ≡ (state_of self.now).rights page }
+        ensures bytes { (i : ℕ) → i < 4096 → slice_index into.new.bytes i ≡ (state_of self.now).bytes (4096 * page + i) }
+    {
+        self.machine.pages.copy_page(page, into);
+    }
+
+    /// The number in the 8 bytes from `addr` on, low byte first, whatever the rights of their page.
+    pub fn word(&self, addr: u64) -> u64
+        requires aligned { addr % 8 ≡ 0 }
+        requires mapped { IsSome ((state_of self.now).rights (addr / 4096)) }
+        ensures { result ≡ word (state_of self.now).bytes addr 8 }
+    {
+        self.machine.pages.word(addr)
+    }
+
+    /// Makes one step of a thread, where it is defined, and adds its entry to the journal. `worker` is the worker
+    /// that makes it. Takes no memory.
+    pub fn step_now(&mut self, worker: u16, thread: u8) -> Stepped
+        ensures answer { result ≡ answer (state_of self.old) thread }
+        ensures journal { result ≡ Stepped.Made → self.new ≡ record { setup = self.old.setup; journal = self.old.journal ++ record { worker = worker; thread = thread; count = 1 } ∷ [] } }
+        ensures state { result ≡ Stepped.Made → step thread (state_of self.old) ≡ Some (state_of self.new) }
+        ensures other { result ≢ Stepped.Made → self.new ≡ self.old }
+        ensures run { IsRun self.new }
+    {
+        let budget = self.setup.budget;
+        match self.machine.step(self.setup.image.trust(), budget, thread) {
+            Stepped::Made => {
+                let _ = self.journal.push(Entry {
+                    worker,
+                    thread: u16::from(thread),
+                    count: 1,
+                });
+                Stepped::Made
+            }
+            Stepped::Ended => Stepped::Ended,
+            Stepped::Spent => Stepped::Spent,
+            Stepped::NotLive => Stepped::NotLive,
+        }
+    }
+}

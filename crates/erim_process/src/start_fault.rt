@@ -1,0 +1,44 @@
+//! Why an image can't start.
+
+ghost use Rattle.std.specs.Prelude.{◌≡◌};
+ghost use Rattle.erim_process.specs.declared.start_fault.StartFault.TheVariants.{Memory};
+
+use erim_defs::{Found, NoMemory};
+use std::alloc::{AllocError, AllocFailed};
+
+/// Why an image can't start.
+#[derive(Debug, Clone, Copy, PartialEq, Eq)]
+pub enum StartFault {
+    /// Trusted text by itself holds something unsafe, first this.
+    TrustedUnsafe { found: Found },
+    /// The image and its stack need more frames.
+    TooFewFrames { needed: u32 },
+    /// Its code holds something unsafe, or a segment is both writable and executable.
+    NotYet,
+    /// Memory gave out.
+    Memory,
+}
+
+impl From<NoMemory> for StartFault {
+    ghost from_gives = { λ _ fault. fault ≡ Memory };
+
+    fn from(_refused: NoMemory) -> StartFault {
+        StartFault::Memory
+    }
+}
+
+impl From<AllocError> for StartFault {
+    ghost from_gives = { λ _ fault. fault ≡ Memory };
+
+    fn from(_refused: AllocError) -> StartFault {
+        StartFault::Memory
+    }
+}
+
+impl<T: Drop> From<AllocFailed<T>> for StartFault {
+    ghost from_gives = { λ _ fault. fault ≡ Memory };
+
+    fn from(_refused: AllocFailed<T>) -> StartFault {
+        StartFault::Memory
+    }
+}

@@ -1,0 +1,107 @@
+//! How a process starts.
+
+ghost use Rattle.std.specs.Prelude.{◌≡◌, ◌≤◌, ◌⊎◌, ◌&&◌, [], Some, None, IfOk, MatchResult, IsTrue, true, length};
+ghost use Rattle.std.specs.List.{list_any};
+ghost use Rattle.erim_defs.specs.Image.{IsAccepted, entry_point, is_writable, is_executable};
+ghost use Rattle.erim_defs.specs.State.{Setup as Given};
+ghost use Rattle.erim_defs.specs.Start.{first_thread, frames_needed, loaded};
+ghost use Rattle.erim_process.specs.Machine.{machine_state, IsRoomy};
+ghost use Rattle.erim_process.specs.Replayed.{setup_of};
+ghost use Rattle.erim_process.specs.Starting.{start_fault};
+
+use crate::machine::Machine;
+use crate::setup::Setup;
+use crate::start::load_pages;
+use crate::start_fault::StartFault;
+use code_runs::{first_trusted, first_unsafe};
+use erim_defs::{Flags, Segment, Thread};
+use page_store::{Memory, PageList};
+use std::alloc::Global;
+
+/// How many bytes of output there may be.
+const OUTPUT_LIMIT: usize = 0x10_0000;
+
+/// How many threads there may be.
+const THREADS: usize = 16;
+
+/// Is a segment both writable and executable?
+fn has_open_segment(segments: &[Segment]) -> bool
+    ensures { result ≡ list_any (λ s. is_writable s && is_executable s) segments.now }
+{
+    segments.iter().any(|segment| segment.flags / 2 % 2 == 1 && segment.flags % 2 == 1)
+}
+
+/// What keeps the image from starting.
+#[tactic(auto, unfolding(crate::specs::Starting::start_fault))]
+pub(crate) fn check_start(alloc: Global, setup: &Setup) -> Result<(), StartFault>
+    ensures { MatchResult result (λ _. start_fault (setup_of setup.now) ≡ None)
+        (λ fault. (fault ≡ StartFault.Memory) ⊎ (start_fault (setup_of setup.now) ≡ Some fault)) }
+{
+    if let Some(found) = first_trusted(alloc, &setup.image)? {
+        return Err(StartFault::TrustedUnsafe { found });
+    }
+    let needed = setup.image.pages() + 16;
+    if setup.frames < needed {
+        return Err(StartFault::TooFewFrames { needed });
+    }
+    let found = first_unsafe(alloc, &setup.image)?;
+    if found.is_some() || has_open_segment(setup.image.segments()) {
+        return Err(StartFault::NotYet);
+    }
+    Ok(())
+}
+
+/// The thread that begins: closed, at the entry point, its stack empty.
+#[tactic(auto, unfolding(erim_defs::specs::Start::first_thread))]
+fn first_thread(entry: u64) -> Thread
+    ensures { (setup : Given) → entry_point setup.image ≡ entry → result ≡ first_thread setup }
+{
+    let mut regs = [0; 16];
+    regs[4] = 0x7FFE_FFF0;
+    Thread {
+        regs,
+        rip: entry,
+        flags: Flags {
+            cf: false,
+            pf: false,
+            zf: false,
+            sf: false,
+            of: false,
+        },
+        pkru: 0x5555_5554,
+        origin: None,
+        live: true,
+    }
+}
+
+/// The machine with its image loaded. It takes all its memory here.
+pub(crate) fn load_machine(alloc: Global, setup: &Setup) -> Result<Machine<PageList>, StartFault>
+    requires { frames_needed setup.now.image ≤ setup.now.frames }
+    ensures state { IfOk result (λ machine. machine_state ⟦<PageList as Memory>⟧ (setup_of setup.now) machine ≡ loaded (setup_of setup.now)) }
+    ensures roomy { IfOk result (λ machine. IsRoomy machine) }
+    ensures fresh { IfOk result (λ machine. (machine.steps ≡ 0) × (length machine.threads.items ≡ 1)) }
+    ensures accepted { IfOk result (λ _. IsAccepted setup.now.image) }
+    ensures fault { MatchResult result (λ _. IsTrue true) (λ fault. fault ≡ StartFault.Memory) }
+{
+    let image = &setup.image;
+    let mut pages = PageList::new(alloc, setup.frames)?;
+    load_pages(
+        &mut pages,
+        image.bytes(),
+        image.segments(),
+        image.trust(),
+        image.trusted_pages(),
+        image.heaps(),
+    );
+    let mut threads = Vec::with_capacity(alloc, THREADS)?;
+    threads.push(first_thread(image.entry()))?;
+    let output = Vec::with_capacity(alloc, OUTPUT_LIMIT)?;
+    Ok(Machine {
+        pages,
+        threads,
+        output,
+        end: None,
+        steps: 0,
+        escape: None,
+    })
+}
