@@ -4,3 +4,5 @@ pub mod ListingLemmas
 pub mod PromiseLemmas
 pub mod ResultLemmas
 pub mod TextLemmas
+pub mod ReportLemmas
+pub mod RunningLemmas

@@ -1,145 +1,144 @@
 -- What follows from the end of a call.
-use Rattle.std.proofs.Common.{◌≡◌, ℕ, ◌≤◌, ◌∙◌, ◌⊎◌, List, [], ◌∷◌, length, Option, Some, None, false, eqb, sym, ap, refl, arith, inl, inr}
-use Rattle.std.specs.Prelude.{IsSome, is_some}
-use Rattle.std.proofs.lemmas.Bool.{cases_lt, cases_Bool, eqb-true, eqb-false}
+use Rattle.std.proofs.Common.{◌≡◌, ◌≢◌, ◌⊎◌, ◌∙◌, List, ◌∷◌, ◌++◌, [], length, ℕ, Option, Some, None, eqb, sym, ap, refl, arith, inl, inr}
+use Rattle.std.specs.Prelude.{IsSome}
+use Rattle.std.proofs.lemmas.Bool.{cases_Bool, eqb-true, eqb-false}
 use Rattle.std.proofs.lemmas.List.{length-append}
 use Rattle.std.specs.Io.KnownBytes.{Appends}
 use Rattle.erim_io.specs.Store.{Name, Files}
 use Rattle.erim_io.specs.Sink.{HasRisen}
-use Rattle.erim_defs.specs.declared.fault.ImageFault.{ImageFault}
 use Rattle.erim_defs.specs.declared.found.Found.{Found}
-use Rattle.erim_defs.specs.Image.{first_fault}
-use Rattle.erim_defs.specs.Words.{Command, Inspect}
-use Rattle.erim_cli.specs.Replies.{Reply, list_status, listed_reply, reply_unless, image_list, image_reply, image_limit, inspect_reply, IsReplyTo}
-use Rattle.erim_cli.specs.Delivery.{World, HasFailed, Ends}
-use Rattle.erim_cli.specs.Promises.{IsReplying, Tells, Inspects, IsRefused, TellsWords, TellsRefusal, TellsList, GainsLoad, TellsFault, IsComplete}
-use Rattle.erim_cli.proofs.DeliveryLemmas.{inspect_loaded, inspect_too_long}
+use Rattle.erim_defs.specs.declared.machine.End.{End}
+use Rattle.erim_defs.specs.declared.machine.End.TheVariants.{Exit, Fault, Refused}
+use Rattle.erim_defs.specs.Words.{Command, Inspect, Run}
+use Rattle.erim_cli.specs.Replies.{Reply, told, list_status, end_status, image_list, refusal, image_of, IsWorkOf, IsUnlessRefused, IsReplyOn, IsReplyTo}
+use Rattle.erim_cli.specs.Delivery.{World, KeepsStore, HasFailed, Ends}
+use Rattle.erim_cli.specs.Promises.{IsReplying, Tells, IsAbout, TellsWords, TellsRefusal, Shows, TellsWork, GainsLoad, GainsSave, TellsFault, IsComplete}
 
-reply_refused : (fault : Option ImageFault) (reply : Reply) → IsSome fault → (reply_unless fault reply).status ≡ 3
-reply_refused None reply some = absurd cc
-reply_refused (Some fault) reply some = refl
+-- ---- statuses
 
-reply_listed : (fault : Option ImageFault) (reply : Reply) → ¬ IsSome fault → reply_unless fault reply ≡ reply
-reply_listed None reply none = refl
-reply_listed (Some fault) reply none = absurd (none refl)
+-- the status of a command that did its work
+record IsWorked (status : ℕ) : Type 0 where
+  not_words : status ≢ 2
+  not_refused : status ≢ 3
 
--- what is refused has status 3
-inspect_refused : (bytes : List ℕ) → IsRefused bytes → (inspect_reply bytes).status ≡ 3
-unfolding image_reply
-inspect_refused bytes refused =
-    elim (cases_lt image_limit (length bytes)) [
-      | inl long ↦ ap (λ (r : Reply). r.status) (inspect_too_long bytes long)
-      | inr short ↦ ap (λ (r : Reply). r.status) (inspect_loaded bytes short) ∙ fault refused short
-    ]
-  where
-    fault : IsRefused bytes → length bytes ≤ image_limit → (reply_unless (first_fault bytes) (listed_reply (image_list bytes))).status ≡ 3
-    fault (inl long) short = absurd (omega arith)
-    fault (inr some) short = reply_refused (first_fault bytes) (listed_reply (image_list bytes)) some
+list_worked : (os : List Found) → IsWorked (list_status os)
+list_worked [] = record { not_words = omega arith; not_refused = omega arith }
+list_worked (o ∷ os) = record { not_words = omega arith; not_refused = omega arith }
 
--- what isn't refused is listed
-inspect_listed : (bytes : List ℕ) → ¬ IsRefused bytes → inspect_reply bytes ≡ listed_reply (image_list bytes)
-unfolding image_reply
-inspect_listed bytes taken =
-    elim (cases_lt image_limit (length bytes)) [
-      | inl long ↦ absurd (taken (inl long))
-      | inr short ↦ inspect_loaded bytes short ∙ reply_listed (first_fault bytes) (listed_reply (image_list bytes)) (λ some. taken (inr some))
-    ]
+end_worked : (end : Option End) → IsWorked (end_status end)
+end_worked None = record { not_words = omega arith; not_refused = omega arith }
+end_worked (Some (Exit code)) = record { not_words = omega arith; not_refused = omega arith }
+end_worked (Some (Fault thread rip cause addr)) = record { not_words = omega arith; not_refused = omega arith }
+end_worked (Some (Refused page found thread)) = record { not_words = omega arith; not_refused = omega arith }
 
-refused_or_not : (bytes : List ℕ) → IsRefused bytes ⊎ ¬ IsRefused bytes
-refused_or_not bytes =
-    elim (cases_lt image_limit (length bytes)) [
-      | inl long ↦ inl (inl long)
-      | inr short ↦ elim (cases_Bool (is_some (first_fault bytes))) [
-        | inl some ↦ inl (inr some)
-        | inr none ↦ inr (λ refused. neither refused short none)
-      ]
-    ]
-  where
-    neither : IsRefused bytes → length bytes ≤ image_limit → is_some (first_fault bytes) ≡ false → ⊥
-    neither (inl long) short none = omega arith
-    neither (inr some) short none = cc
+work_status : (command : Command) (bytes : List ℕ) (reply : Reply) → IsWorkOf command bytes reply → IsWorked reply.status
+work_status (Inspect image) bytes reply is = rw is (list_worked (image_list bytes))
+work_status (Run image journal) bytes reply is = rw is.answer (end_worked is.last.end)
 
-list_status_small : (os : List Found) → list_status os ≤ 1
-list_status_small [] = omega arith
-list_status_small (o ∷ os) = omega arith
+-- 3 exactly where there is a text that says why
+refused_status : (text : Option (List ℕ)) (command : Command) (bytes : List ℕ) (reply : Reply) → IsUnlessRefused text command bytes reply
+    → (reply.status ≡ 3 → IsSome text) × (IsSome text → reply.status ≡ 3) × (reply.status ≢ 2)
+refused_status None command bytes reply is =
+    let worked = work_status command bytes reply is in
+    (λ three. absurd (worked.not_refused three), λ some. absurd cc, worked.not_words)
+refused_status (Some text) command bytes reply is = rw is (λ _. refl, λ _. refl, omega arith)
 
--- an image's reply has status 3, or 0 or 1
-inspect_status : (bytes : List ℕ) → ((inspect_reply bytes).status ≡ 3) ⊎ ((inspect_reply bytes).status ≤ 1)
-inspect_status bytes = elim (refused_or_not bytes) [
-  | inl refused ↦ inl (inspect_refused bytes refused)
-  | inr taken ↦ (let status = ap (λ (r : Reply). r.status) (inspect_listed bytes taken) in inr (omega (arith, status, list_status_small (image_list bytes))))
-]
+-- ---- replies to words
 
--- the reply to words that inspect is that of the bytes that are told
-told_reply : (held : Option Files) (image : Name) (bytes : List ℕ) (reply : Reply) → Tells held image bytes → IsReplyTo (Some (Inspect image)) held reply → reply ≡ inspect_reply bytes
-told_reply None image bytes reply told is = absurd told
-told_reply (Some files) image bytes reply told is =
+-- the reply to words is that on the bytes that are told
+reply_on : (held : Option Files) (command : Command) (bytes : List ℕ) (reply : Reply) → Tells held (image_of command) bytes → IsReplyTo (Some command) held reply → IsReplyOn command bytes reply
+reply_on None command bytes reply told is = absurd told
+reply_on (Some files) command bytes reply told is =
     let both : Some is.0 ≡ Some bytes = sym is.1 ∙ told in
     let same : is.0 ≡ bytes = cc in
-    is.2 ∙ ap inspect_reply same
+    rw same at is.2
 
--- how a call that inspects has replied
-record HasReplied (bytes : List ℕ) (old new : World) (status : ℕ) : Type 0 where
-  status_is : status ≡ (inspect_reply bytes).status
-  text : Appends old.written new.written (inspect_reply bytes).text
+-- how a call has replied
+record HasReplied (command : Command) (bytes : List ℕ) (old new : World) (status : ℕ) : Type 0 where
+  reply : Reply
+  is : IsReplyOn command bytes reply
+  status_is : status ≡ reply.status
+  text : Appends old.written new.written reply.text
+  store : KeepsStore reply.save old new
 
-inspects_replied : (command : Option Command) (old new : World) (status : ℕ) (bytes : List ℕ) → Ends command old new status → Inspects command old bytes → IsReplying status → HasReplied bytes old new status
-inspects_replied command old new status bytes ends inspects replying =
+replied_about : (words : Option Command) (command : Command) (old new : World) (status : ℕ) (bytes : List ℕ) → Ends words old new status → IsAbout words command old bytes → IsReplying status
+    → HasReplied command bytes old new status
+replied_about words command old new status bytes ends about replying =
     let replied = ends.replied replying.0 replying.1 in
-    let is : IsReplyTo (Some (Inspect inspects.image)) old.held replied.0 = rw inspects.meant at replied.1 in
-    let same : replied.0 ≡ inspect_reply bytes = told_reply old.held inspects.image bytes replied.0 inspects.told is in
-    record { status_is = rw same at replied.2; text = rw same at replied.3.text }
+    let is : IsReplyTo (Some command) old.held replied.0 = rw about.meant at replied.1 in
+    record {
+      reply = replied.0;
+      is = reply_on old.held command bytes replied.0 about.told is;
+      status_is = replied.2;
+      text = replied.3.text;
+      store = replied.3.store;
+    }
 
-pub ends_words : (command : Option Command) (old new : World) (status : ℕ) → Ends command old new status → TellsWords command status
+-- ---- the promises
+
+pub ends_words : (words : Option Command) (old new : World) (status : ℕ) → Ends words old new status → TellsWords words status
 ends_words None old new status ends replying =
     let replied = ends.replied replying.0 replying.1 in
     (λ _. refl, λ _. replied.2 ∙ ap (λ (r : Reply). r.status) replied.1)
-ends_words (Some (Inspect image)) old new status ends replying =
+ends_words (Some command) old new status ends replying =
     let replied = ends.replied replying.0 replying.1 in
-    let reply = ap (λ (r : Reply). r.status) replied.1.2 in (
-      λ two. absurd (elim (inspect_status replied.1.0) [
-        | inl three ↦ omega (arith, two, three, reply, replied.2)
-        | inr small ↦ omega (arith, two, small, reply, replied.2)
-      ]),
-      λ none. absurd cc,
-    )
+    let told = refused_status (refusal command replied.1.0) command replied.1.0 replied.0 replied.1.2 in
+    (λ two. absurd (told.2 (sym replied.2 ∙ two)), λ none. absurd cc)
 
-pub ends_refusal : (command : Option Command) (old new : World) (status : ℕ) → Ends command old new status → TellsRefusal command old status
-ends_refusal command old new status ends bytes inspects replying =
-    let replied = inspects_replied command old new status bytes ends inspects replying in (
-      λ three. elim (refused_or_not bytes) [
-        | inl refused ↦ refused
-        | inr taken ↦ (let listed = ap (λ (r : Reply). r.status) (inspect_listed bytes taken) in absurd (omega (arith, three, replied.status_is, listed, list_status_small (image_list bytes))))
-      ],
-      λ refused. replied.status_is ∙ inspect_refused bytes refused,
-    )
+pub ends_refusal : (words : Option Command) (old new : World) (status : ℕ) → Ends words old new status → TellsRefusal words old status
+ends_refusal words old new status ends command bytes about replying =
+    let replied = replied_about words command old new status bytes ends about replying in
+    let told = refused_status (refusal command bytes) command bytes replied.reply replied.is in
+    (λ three. told.0 (sym replied.status_is ∙ three), λ some. replied.status_is ∙ told.1 some)
 
-pub ends_list : (command : Option Command) (old new : World) (status : ℕ) → Ends command old new status → TellsList command old new status
-ends_list command old new status ends bytes inspects taken replying =
-    let replied = inspects_replied command old new status bytes ends inspects replying in
-    let listed = inspect_listed bytes taken in
-    (replied.status_is ∙ ap (λ (r : Reply). r.status) listed, rw listed at replied.text)
+-- a reply that was written shows what the command found
+shown : (command : Command) (bytes : List ℕ) (reply : Reply) (old new : World) (status : ℕ) → IsWorkOf command bytes reply → status ≡ reply.status
+    → Appends old.written new.written reply.text → KeepsStore reply.save old new → Shows command bytes old new status
+shown (Inspect image) bytes reply old new status is status_is text store =
+    record { answer = status_is ∙ ap (λ (r : Reply). r.status) is; text = rw is at text }
+shown (Run image journal) bytes reply old new status is status_is text store =
+    let kept = rw is.answer at store in
+    record {
+      entries = is.entries;
+      last = is.last;
+      runs = is.runs;
+      over = is.over;
+      saved = kept.held;
+      text = rw is.answer at text;
+      answer = status_is ∙ ap (λ (r : Reply). r.status) is.answer;
+    }
 
-pub ends_fault : (command : Option Command) (old new : World) (status : ℕ) → Ends command old new status → TellsFault command old new status
-ends_fault command old new status ends four = by (ends.failed four)
+pub ends_work : (words : Option Command) (old new : World) (status : ℕ) → Ends words old new status → TellsWork words old new status
+ends_work words old new status ends command bytes about taken replying =
+    let replied = replied_about words command old new status bytes ends about replying in
+    let is : IsUnlessRefused None command bytes replied.reply = rw taken at replied.is in
+    shown command bytes replied.reply old new status is replied.status_is replied.text replied.store
+
+pub ends_fault : (words : Option Command) (old new : World) (status : ℕ) → Ends words old new status → TellsFault words old new status
+ends_fault words old new status ends four = by (ends.failed four)
   where
-    by : HasFailed command old new → GainsLoad command old new ⊎ HasRisen old.faults new.faults
+    by : HasFailed words old new → GainsLoad words old new ⊎ (GainsSave words old new ⊎ HasRisen old.faults new.faults)
     by (inl load) = inl (load.0, load.1, load.2.loads)
-    by (inr put) = inr put.2.risen
+    by (inr (inl save)) = inr (inl (save.0, save.1, save.2.saves))
+    by (inr (inr put)) = inr (inr put.2.risen)
 
-pub ends_complete : (command : Option Command) (old new : World) (status : ℕ) → Ends command old new status → IsComplete command old new status
-ends_complete command old new status ends bytes inspects taken faultless =
+pub ends_complete : (words : Option Command) (old new : World) (status : ℕ) → Ends words old new status → IsComplete words old new status
+ends_complete words old new status ends command bytes about taken faultless =
     elim (cases_Bool (eqb status 5)) [
       | inl five ↦ inl (eqb-true _ _ five)
       | inr other ↦ elim (cases_Bool (eqb status 4)) [
-        | inl four ↦ absurd (no_fault (ends_fault command old new status ends (eqb-true _ _ four)))
-        | inr neither ↦ inr (ends_list command old new status ends bytes inspects taken (eqb-false _ _ neither, eqb-false _ _ other))
+        | inl four ↦ absurd (no_fault (ends_fault words old new status ends (eqb-true _ _ four)))
+        | inr neither ↦ inr (ends_work words old new status ends command bytes about taken (eqb-false _ _ neither, eqb-false _ _ other))
       ]
     ]
   where
-    no_fault : GainsLoad command old new ⊎ HasRisen old.faults new.faults → ⊥
-    no_fault (inl load) =
-        (let one = ap length load.2 in
-        let same = ap length faultless.0 in
-        omega (arith, one, same, length-append old.failed_loads (load.0 ∷ [])))
-    no_fault (inr risen) = faultless.1 risen
+    longer : (name : Name) (names more : List Name) → more ≡ names ++ name ∷ [] → more ≡ names → ⊥
+    longer name names more one same =
+        (let long = ap length one in
+        let short = ap length same in
+        omega (arith, long, short, length-append names (name ∷ [])))
+
+    no_fault : GainsLoad words old new ⊎ (GainsSave words old new ⊎ HasRisen old.faults new.faults) → ⊥
+    no_fault (inl load) = longer load.0 _ _ load.2 faultless.loads
+    no_fault (inr (inl save)) = longer save.0 _ _ save.2 faultless.saves
+    no_fault (inr (inr risen)) = faultless.puts risen

@@ -1,17 +1,22 @@
--- How an address is printed.
+-- How numbers are printed with zeros in front.
 use Rattle.std.proofs.Common.{◌≡◌, ℕ, ◌-◌, ◌^◌, List, [], ◌∷◌, ◌++◌, append_assoc, length, false, replicate, ap, arith}
 use Rattle.std.specs.Fmt.{padded_integral, format_spec, char_count}
 use Rattle.std.proofs.lemmas.List.{append-nil}
 use Rattle.erim_defs.specs.Texts.{line, zero_filled}
 
--- the width 12 with zeros in front
-pub zeros_in_front : (numeral : List ℕ) → padded_integral (format_spec 32 0 4 12 (2 ^ 64 - 1)) false [] numeral ≡ zero_filled numeral
+-- a width with zeros in front
+pub zeros_in_front : (width : ℕ) (numeral : List ℕ) → padded_integral (format_spec 32 0 4 width (2 ^ 64 - 1)) false [] numeral ≡ zero_filled width numeral
 unfolding padded_integral char_count
-zeros_in_front numeral =
-    let width : 12 - length numeral - 0 - char_count [] ≡ 12 - length numeral = omega arith in
-    rw width (ap (λ (ds : List ℕ). replicate (12 - length numeral) 48 ++ ds) (append-nil numeral))
+zeros_in_front width numeral =
+    let left : width - length numeral - 0 - char_count [] ≡ width - length numeral = omega arith in
+    rw left (ap (λ (ds : List ℕ). replicate (width - length numeral) 48 ++ ds) (append-nil numeral))
 
 -- the pieces of a line as they are written, and as the line has them
 pub unsafe_line_joins : (old word kind at sign ds : List ℕ)
     → old ++ (word ++ (kind ++ ((at ++ sign) ++ (ds ++ 10 ∷ [])))) ≡ old ++ line (word ++ kind ++ at ++ (sign ++ ds))
 unsafe_line_joins old word kind at sign ds = simp append_assoc
+
+-- the pieces of a fault's text
+pub fault_joins : (word cause thread t at_rip rip at addr : List ℕ)
+    → word ++ (cause ++ (thread ++ (t ++ (at_rip ++ (rip ++ (at ++ addr)))))) ≡ word ++ cause ++ thread ++ t ++ at_rip ++ rip ++ at ++ addr
+fault_joins word cause thread t at_rip rip at addr = simp append_assoc

@@ -1,7 +1,8 @@
 -- A command of the code, as the command that words mean.
-use Rattle.erim_defs.specs.Words.{Command as Meant, Inspect as MeantInspect}
+use Rattle.erim_defs.specs.Words.{Command as Meant, Inspect as MeantInspect, Run as MeantRun}
 use Rattle.erim_cli.specs.declared.words.Command.{Command}
-use Rattle.erim_cli.specs.declared.words.Command.TheVariants.{Inspect}
+use Rattle.erim_cli.specs.declared.words.Command.TheVariants.{Inspect, Run}
 
 abbrev pub meaning : Command → Meant
 meaning (Inspect image) = MeantInspect image.now
+meaning (Run image journal) = MeantRun image.now journal.now

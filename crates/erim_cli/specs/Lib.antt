@@ -1,6 +1,8 @@
 pub mod Commands
-pub mod Delivery
-pub mod Listing
-pub mod Promises
-pub mod Replies
 pub mod Statuses
+pub mod Replies
+pub mod Delivery
+pub mod Deliveries
+pub mod Listing
+pub mod Running
+pub mod Promises

@@ -1,10 +1,15 @@
-//! The program `erim`: inspects images for unsafe sequences that write PKRU.
+//! The program `erim`: inspects images for unsafe sequences that write PKRU, and runs them on an emulated machine.
 #![tactic(auto)]
 
+mod answering;
+mod finishing;
 mod inspect;
+mod journal;
 mod listing;
 mod plain;
 mod reply;
+mod reporting;
+mod running;
 mod text;
 mod words;
 

@@ -3,12 +3,29 @@
 ghost use Rattle.std.specs.Prelude.{◌≡◌, ◌++◌, OnOk, IfOk, codes};
 ghost use Rattle.std.specs.Fmt.{decimal};
 ghost use Rattle.std.specs.String.{string_bytes};
-ghost use Rattle.erim_defs.specs.Texts.{kind_text, unsafe_line, fault_text, error_line};
+ghost use Rattle.erim_defs.specs.Texts.{kind_text, unsafe_line, fault_text, error_line, address_text, pkru_text};
+ghost use Rattle.erim_cli.specs.Replies.{start_text};
 
 use erim_defs::{Found, ImageFault, NoMemory, SeqKind};
+use erim_process::StartFault;
 use std::alloc::{AllocError, Global};
 
-fn kind_name(kind: SeqKind) -> &'static str
+/// An address as it is printed.
+pub fn address_text(alloc: Global, address: u64) -> Result<String, AllocError>
+    ensures { IfOk result (λ text. string_bytes text ≡ address_text address) }
+{
+    format!(in alloc; "0x{address:012x}")
+}
+
+/// A PKRU as it is printed.
+pub fn pkru_text(alloc: Global, pkru: u32) -> Result<String, AllocError>
+    ensures { IfOk result (λ text. string_bytes text ≡ pkru_text pkru) }
+{
+    format!(in alloc; "0x{pkru:08x}")
+}
+
+/// The name of a kind of sequence.
+pub fn kind_name(kind: SeqKind) -> &'static str
     ensures { result.now ≡ kind_text kind }
 {
     match kind {
@@ -68,4 +85,36 @@ pub fn fault_line(alloc: Global, fault: &ImageFault) -> Result<String, NoMemory>
     ensures { IfOk result (λ text. string_bytes text ≡ error_line (fault_text fault.now)) }
 {
     Ok(named_fault(alloc, fault)?)
+}
+
+/// The line that says how many frames an image needs.
+#[tactic(auto, unfolding(erim_defs::specs::Texts::error_line))]
+fn frames_line(alloc: Global, needed: u32) -> Result<String, AllocError>
+    ensures { IfOk result (λ text. string_bytes text ≡ error_line (start_text (StartFault.TooFewFrames needed))) }
+{
+    format!(in alloc; "erim: image needs {needed} frames\n")
+}
+
+/// The line that names the cause that keeps an image from starting, unless memory runs out.
+#[tactic(auto, unfolding(erim_defs::specs::Texts::error_line))]
+fn named_start_fault(alloc: Global, fault: &StartFault) -> Result<String, AllocError>
+    ensures { IfOk result (λ text. string_bytes text ≡ error_line (start_text fault.now)) }
+{
+    match fault {
+        StartFault::TrustedUnsafe { found } => {
+            let kind = kind_name(found.kind);
+            let at = address_text(alloc, found.at)?;
+            format!(in alloc; "erim: image trusted {kind} at {at}\n")
+        }
+        StartFault::TooFewFrames { needed } => frames_line(alloc, *needed),
+        StartFault::NotYet => format!(in alloc; "erim: image not yet\n"),
+        StartFault::Memory => format!(in alloc; "erim: out of memory\n"),
+    }
+}
+
+/// The line that names the cause that keeps an image from starting.
+pub fn start_line(alloc: Global, fault: &StartFault) -> Result<String, NoMemory>
+    ensures { IfOk result (λ text. string_bytes text ≡ error_line (start_text fault.now)) }
+{
+    Ok(named_start_fault(alloc, fault)?)
 }

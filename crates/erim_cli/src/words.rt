@@ -3,13 +3,28 @@
 ghost use Rattle.std.specs.Prelude.{◌≡◌, ◌↔◌, List, map, IsTrue};
 ghost use Rattle.std.specs.Option.{option_map};
 ghost use Rattle.std.specs.String.{string_bytes};
-ghost use Rattle.erim_defs.specs.Words.{command_of, inspect_of, is_option};
+ghost use Rattle.erim_defs.specs.Words.{command_of, inspect_of, run_of, is_option};
 ghost use Rattle.erim_cli.specs.Commands.{meaning};
+ghost use Rattle.erim_cli.specs.Replies.{image_of};
 
 /// A command, with the names that it was given.
+#[derive(Clone, Copy)]
 pub enum Command<'a> {
     /// Prints the unsafe list of an image.
     Inspect { image: &'a str },
+    /// Runs an image, saves the journal of the run, and prints its report.
+    Run { image: &'a str, journal: &'a str },
+}
+
+impl<'a> Command<'a> {
+    /// The image that the command loads.
+    pub fn image(&self) -> &'a str
+        ensures { result.now ≡ image_of (meaning self.now) }
+    {
+        match self {
+            Command::Inspect { image } | Command::Run { image, .. } => image,
+        }
+    }
 }
 
 /// Does the word begin with `-`, without being `-` alone?
@@ -31,6 +46,21 @@ fn inspect_of(words: &[String]) -> Option<Command<'_>>
     }
 }
 
+/// The command `run` with its words.
+fn run_of(words: &[String]) -> Option<Command<'_>>
+    ensures { option_map meaning result ≡ run_of (map string_bytes words.now) }
+{
+    match words {
+        [image, journal] if !is_option(image.as_str()) && !is_option(journal.as_str()) => {
+            Some(Command::Run {
+                image: image.as_str(),
+                journal: journal.as_str(),
+            })
+        }
+        _ => None,
+    }
+}
+
 /// The command that the words mean. The first word is the program's name.
 #[tactic(auto, unfolding(erim_defs::specs::Words::command_of))]
 pub fn command_of(words: &[String]) -> Option<Command<'_>>
@@ -38,6 +68,7 @@ pub fn command_of(words: &[String]) -> Option<Command<'_>>
 {
     match words {
         [_program, command, others @ ..] if command.as_str() == "inspect" => inspect_of(others),
+        [_program, command, others @ ..] if command.as_str() == "run" => run_of(others),
         _ => None,
     }
 }

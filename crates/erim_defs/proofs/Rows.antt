@@ -1,5 +1,5 @@
 -- The definitions on small codes, computed. The bytes lie at address 0.
-use Rattle.std.proofs.Common.{◌≡◌, ℕ, List, [], ◌∷◌, ◌++◌, Some, refl}
+use Rattle.std.proofs.Common.{◌≡◌, ℕ, List, [], ◌∷◌, ◌++◌, Some, None, false, true, replicate, refl}
 use Rattle.std.specs.Prelude.{codes}
 use Rattle.std.specs.Fmt.{digits}
 use Rattle.erim_defs.specs.declared.found.SeqKind.TheVariants.{Wrpkru}
@@ -11,6 +11,13 @@ use Rattle.erim_defs.specs.Safe.{Entries, no_entries, fits, check_of, unsafe_at}
 use Rattle.erim_defs.specs.Unsafe.{found_below}
 use Rattle.erim_defs.specs.Image.{first_fault, head_fault}
 use Rattle.erim_defs.specs.Texts.{unsafe_line, inspect_text}
+use Rattle.erim_defs.specs.declared.machine.Cause.TheVariants.{Write}
+use Rattle.erim_defs.specs.declared.machine.End.TheVariants.{Exit, Fault, Refused}
+use Rattle.erim_defs.specs.declared.machine.Entry.{Entry}
+use Rattle.erim_defs.specs.declared.machine.Thread.{Thread}
+use Rattle.erim_defs.specs.State.{State}
+use Rattle.erim_defs.specs.Journal.{journal_text}
+use Rattle.erim_defs.specs.Report.{report, thread_lines, worker_lines, end_text, escape_text}
 
 wrpkru : ℕ → Found
 wrpkru a = record { at = a; len = 3; kind = Wrpkru }
@@ -80,3 +87,56 @@ text_of_none = refl
 empty_file : first_fault [] ≡ Some (Short 0)
 unfolding first_fault head_fault
 empty_file = refl
+
+-- ---- a run of four steps of thread 0 by worker 0, which exits with 0
+
+four_steps : List Entry
+four_steps = record { worker = 0; thread = 0; count = 4 } ∷ []
+
+closed_thread : Thread
+closed_thread = record {
+  regs = replicate 16 0;
+  rip = 0x40100C;
+  flags = record { cf = false; pf = false; zf = false; sf = false; of = false };
+  pkru = 0x55555554;
+  origin = None;
+  live = true;
+}
+
+after_four : State
+after_four = record {
+  setup = record { image = []; budget = 1000000; frames = 1024 };
+  rights = λ q. None;
+  bytes = λ a. 0;
+  threads = closed_thread ∷ [];
+  keys = λ k. false;
+  output = [];
+  end = Some (Exit 0);
+  steps = 4;
+  escape = None;
+}
+
+journal_of_four : journal_text 1000000 1024 four_steps ≡ codes "ERIMJNL1"
+    ++ 0x40 ∷ 0x42 ∷ 0x0F ∷ 0 ∷ 0 ∷ 4 ∷ 0 ∷ 0 ∷ 1 ∷ 0 ∷ 0 ∷ 0 ∷ 0 ∷ 0 ∷ 0 ∷ 0 ∷ 4 ∷ 0 ∷ 0 ∷ 0 ∷ []
+unfolding journal_text four_steps
+journal_of_four = refl
+
+report_of_four : report four_steps after_four ≡ codes "output 0\n\nsteps 4\nend exit 0\nescape none\nthread 0 steps 4 pkru 0x55555554\nworker 0 steps 4\n"
+unfolding report thread_lines worker_lines digits four_steps after_four closed_thread
+report_of_four = refl
+
+-- other ends, and an escape
+faulted : end_text (Some (Fault 0 0x401000 Write 0x401100)) ≡ codes "fault write thread 0 rip 0x000000401000 at 0x000000401100"
+unfolding digits
+faulted = refl
+
+refused : end_text (Some (Refused 0x402 (wrpkru 0x401FFE) 0)) ≡ codes "refused page 0x000000402000 wrpkru at 0x000000401ffe thread 0"
+unfolding wrpkru digits
+refused = refl
+
+spent : end_text None ≡ codes "spent"
+spent = refl
+
+escaped_once : escape_text (Some (record { step = 7; thread = 0; rip = 0x401005 })) ≡ codes "step 7 thread 0 rip 0x000000401005"
+unfolding digits
+escaped_once = refl

@@ -24,3 +24,5 @@ pub mod Step
 pub mod Start
 pub mod Replay
 pub mod Isolation
+pub mod Journal
+pub mod Report

@@ -11,13 +11,19 @@ use Rattle.erim_defs.specs.declared.fault.ImageFault.TheVariants.{Short, Magic, 
 abbrev pub line : List ℕ → List ℕ
 line text = text ++ 10 ∷ []
 
--- at least twelve digits, with zeros in front where there are fewer
-abbrev pub zero_filled : List ℕ → List ℕ
-zero_filled ds = replicate (12 - length ds) 48 ++ ds
+-- at least so many digits, with zeros in front where there are fewer
+abbrev pub zero_filled : ℕ → List ℕ → List ℕ
+zero_filled width ds = replicate (width - length ds) 48 ++ ds
 
--- `0x` and at least twelve lower-case hexadecimal digits
+-- `0x` and at least so many lower-case hexadecimal digits
+abbrev pub hex_text : ℕ → ℕ → List ℕ
+hex_text width n = codes "0x" ++ zero_filled width (digits 16 false n)
+
 abbrev pub address_text : ℕ → List ℕ
-address_text a = codes "0x" ++ zero_filled (digits 16 false a)
+address_text a = hex_text 12 a
+
+abbrev pub pkru_text : ℕ → List ℕ
+pkru_text pkru = hex_text 8 pkru
 
 abbrev pub kind_text : SeqKind → List ℕ
 kind_text Wrpkru = codes "wrpkru"

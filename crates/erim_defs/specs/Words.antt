@@ -1,11 +1,13 @@
 -- What a list of words means. Own. The first word is the program's name, whatever it is.
-use Rattle.std.specs.Prelude.{ℕ, ◌==◌, Bool, false, Option, Some, None, List, [], ◌∷◌, codes, if◌then◌else◌}
+use Rattle.std.specs.Prelude.{ℕ, ◌==◌, ◌||◌, Bool, false, Option, Some, None, List, [], ◌∷◌, codes, if◌then◌else◌}
 use Rattle.std.specs.Str.{bytes_eq}
 
 -- a command with its names, each as its bytes
 pub data Command : Type 0 where
   -- prints the unsafe list of an image
   Inspect : (image : List ℕ) → Command
+  -- runs an image, saves the journal of the run, and prints its report
+  Run : (image journal : List ℕ) → Command
 
 -- a word that begins with `-` and isn't `-` alone
 abbrev pub is_option : List ℕ → Bool
@@ -19,9 +21,19 @@ inspect_of [] = None
 inspect_of (image ∷ []) = if is_option image then None else Some (Inspect image)
 inspect_of (image ∷ more ∷ rest) = None
 
+-- `run IMAGE JOURNAL`
+abbrev pub run_of : List (List ℕ) → Option Command
+run_of [] = None
+run_of (image ∷ []) = None
+run_of (image ∷ journal ∷ []) = if is_option image || is_option journal then None else Some (Run image journal)
+run_of (image ∷ journal ∷ more ∷ rest) = None
+
 abbrev pub named_command : List (List ℕ) → Option Command
 named_command [] = None
-named_command (command ∷ others) = if bytes_eq command (codes "inspect") then inspect_of others else None
+named_command (command ∷ others) =
+    if bytes_eq command (codes "inspect") then inspect_of others
+    else if bytes_eq command (codes "run") then run_of others
+    else None
 
 -- the command that the words mean
 unfoldable pub command_of : List (List ℕ) → Option Command

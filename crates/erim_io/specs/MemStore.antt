@@ -3,6 +3,8 @@ use Rattle.std.specs.Prelude.{ℕ, ◌+◌, ◌^◌, ◌==◌, nat_le, min, Bool
 use Rattle.std.specs.List.{list_any}
 use Rattle.erim_io.specs.declared.store.LoadFault.{LoadFault}
 use Rattle.erim_io.specs.declared.store.LoadFault.TheVariants.{Failed, TooLarge}
+use Rattle.erim_io.specs.declared.store.SaveFault.{SaveFault}
+use Rattle.erim_io.specs.declared.store.SaveFault.TheVariants as saves
 use Rattle.erim_io.specs.Store.{Name}
 
 -- the files with their names, the numbers of the calls that fail, how many calls there were, and the
@@ -40,3 +42,12 @@ answer_at (Some bytes) limit = if nat_le (length bytes) limit then Ok tt else Er
 abbrev pub load_answer : MemStoreValue → Name → ℕ → Result (Unit {0}) LoadFault
 load_answer store name limit =
     if is_listed store.failing store.calls then Err Failed else answer_at (file_in store.files name) limit
+
+-- the answer to the next save where memory suffices
+abbrev pub save_answer : MemStoreValue → Result (Unit {0}) SaveFault
+save_answer store = if is_listed store.failing store.calls then Err saves.Failed else Ok tt
+
+-- the files after a save; the one that was saved stands first, so that it is found
+abbrev pub saved_files : Result (Unit {0}) SaveFault → Name → List ℕ → List (Name × List ℕ) → List (Name × List ℕ)
+saved_files (Ok done) name bytes files = (name, bytes) ∷ files
+saved_files (Err fault) name bytes files = files

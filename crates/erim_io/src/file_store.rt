@@ -5,8 +5,8 @@ ghost use Rattle.std.specs.Io.KnownBytes.{Consumes, IsAtEnd};
 ghost use Rattle.erim_io.specs.Store.{IsTooLong};
 ghost use Rattle.erim_io.specs.FileStore.{FileStoreValue, HasMore};
 
-use crate::notes::{note_load, room_to_note};
-use crate::store::{LoadFault, Store};
+use crate::notes::{note_failed, room_to_note};
+use crate::store::{LoadFault, SaveFault, Store};
 use std::alloc::Global;
 use std::fs::{self, OpenFile};
 use std::io::{ErrorKind, Read};
@@ -53,6 +53,13 @@ impl<'a, R: Files> FileStore<'a, R> {
     {
         &self.failed_loads
     }
+
+    /// The names of the saves that failed, in order.
+    pub fn failed_saves(&self) -> &Vec<String>
+        ensures { map string_bytes result.now.items ≡ self.now.failed_saves }
+    {
+        &self.failed_saves
+    }
 }
 
 impl<'a, R: Files> Store for FileStore<'a, R> {
@@ -68,7 +75,15 @@ impl<'a, R: Files> Store for FileStore<'a, R> {
         if outcome.is_err() {
             into.clear();
         }
-        note_load(&mut self.failed_loads, note, &outcome);
+        let failed = matches!(outcome, Err(LoadFault::Failed));
+        note_failed(&mut self.failed_loads, note, failed);
+        outcome
+    }
+
+    fn save(&mut self, name: &str, bytes: &[u8]) -> Result<(), SaveFault> {
+        let note = room_to_note(self.alloc, &mut self.failed_saves, name)?;
+        let outcome = fs::write(self.rt, name, bytes).map_err(|_| SaveFault::Failed);
+        note_failed(&mut self.failed_saves, note, outcome.is_err());
         outcome
     }
 }

@@ -1,11 +1,11 @@
 //! A store in memory, whose calls fail by their numbers.
 
-ghost use Rattle.std.specs.Prelude.{◌≡◌, ◌≢◌, ◌<◌, ◌≤◌, List, [], Some, map, length, vec_len, vec_capacity, string_bytes, option_copied, Err, OnOk, OnErr, IfErr};
-ghost use Rattle.erim_io.specs.Store.{Holds, IsTooLong, noted_load};
-ghost use Rattle.erim_io.specs.MemStore.{MemStoreValue, file_in, files_of, next_call, is_listed, answer_at, load_answer};
+ghost use Rattle.std.specs.Prelude.{◌≡◌, ◌≢◌, ◌<◌, ◌≤◌, List, [], Some, map, length, vec_len, vec_capacity, string_bytes, option_copied, Ok, Err, OnOk, OnErr, IfErr};
+ghost use Rattle.erim_io.specs.Store.{Holds, IsTooLong, noted_load, noted_save, LeavesHeld};
+ghost use Rattle.erim_io.specs.MemStore.{MemStoreValue, file_in, files_of, next_call, is_listed, answer_at, load_answer, save_answer, saved_files};
 
-use crate::notes::{note_load, room_to_note};
-use crate::store::{LoadFault, Store};
+use crate::notes::{note_failed, room_to_note};
+use crate::store::{LoadFault, SaveFault, Store};
 use std::alloc::Global;
 use std::marker::Model;
 
@@ -62,6 +62,13 @@ impl MemStore {
     {
         &self.failed_loads
     }
+
+    /// The names of the saves that failed, in order.
+    pub fn failed_saves(&self) -> &Vec<String>
+        ensures { map string_bytes result.now.items ≡ self.now.failed_saves }
+    {
+        &self.failed_saves
+    }
 }
 
 impl Store for MemStore {
@@ -93,9 +100,50 @@ impl Store for MemStore {
         } else {
             copy_file(&self.files, name, limit, into)
         };
-        note_load(&mut self.failed_loads, note, &outcome);
+        let failed = matches!(outcome, Err(LoadFault::Failed));
+        note_failed(&mut self.failed_loads, note, failed);
         outcome
     }
+
+    fn save(&mut self, name: &str, bytes: &[u8]) -> Result<(), SaveFault>
+        ensures held { LeavesHeld result name.now bytes.now (Some (file_in self.old.files)) (Some (file_in self.new.files)) }
+
+        // The answer is fixed but for memory, and so is the state.
+        ensures answer { result ≢ Err SaveFault.Memory → result ≡ save_answer self.old }
+        ensures state { self.new ≡ record self.old {
+          files = saved_files result name.now bytes.now self.old.files;
+          calls = next_call self.old.calls;
+          failed_saves = noted_save result name.now self.old.failed_saves;
+        } }
+    {
+        let number = self.calls;
+        self.calls = next_call(number);
+        let note = room_to_note(self.alloc, &mut self.failed_saves, name)?;
+        let outcome = if is_listed(&self.failing, number) {
+            Err(SaveFault::Failed)
+        } else {
+            put_file(self.alloc, &mut self.files, name, bytes)
+        };
+        let failed = matches!(outcome, Err(SaveFault::Failed));
+        note_failed(&mut self.failed_saves, note, failed);
+        outcome
+    }
+}
+
+// Puts a file before the others, so that it is the first of its name.
+fn put_file(
+    alloc: Global,
+    files: &mut Vec<(String, Vec<u8>)>,
+    name: &str,
+    bytes: &[u8],
+) -> Result<(), SaveFault>
+    ensures answer { result ≢ Err SaveFault.Memory → result ≡ Ok tt }
+    ensures files { files_of files.new.items ≡ saved_files result name.now bytes.now (files_of files.old.items) }
+{
+    let name = String::from_str(alloc, name)?;
+    let bytes = Vec::from_slice(alloc, bytes)?;
+    files.insert(0, (name, bytes))?;
+    Ok(())
 }
 
 // The number of the next call.

@@ -1,5 +1,7 @@
 use crate::file_store::read_within;
-use crate::{Failed, FileStore, LoadFault, MemSink, MemStore, OutSink, Sink, Store, put_all};
+use crate::{
+    Failed, FileStore, LoadFault, MemSink, MemStore, OutSink, SaveFault, Sink, Store, put_all,
+};
 use std::alloc::Global;
 use std::io::{self, ErrorKind, Read};
 use std::process::Abort;
@@ -54,6 +56,26 @@ fn mem_store_answers_by_name_and_number(rt: HostRuntime) -> Result<(), Fail> {
 }
 
 #[test]
+fn mem_store_holds_what_was_saved_last(rt: HostRuntime) -> Result<(), Fail> {
+    let alloc = rt.alloc();
+    let first = (
+        String::from_str(alloc, "a")?,
+        Vec::from_slice(alloc, b"abc")?,
+    );
+    let failing = vec![in alloc; 1u32]?;
+    let mut store = MemStore::new(alloc, vec![in alloc; first]?, failing);
+    assert_eq!(rt; store.save("b", b"x"), Ok(()));
+    assert_eq!(rt; store.save("a", b"y"), Err(SaveFault::Failed));
+    assert_eq!(rt; store.save("b", b"yz"), Ok(()));
+    for (name, want) in [("a", b"abc".as_slice()), ("b", b"yz".as_slice())] {
+        assert_eq!(rt; load(rt.alloc(), &mut store, name, 9)?.as_slice(), want);
+    }
+    check_names(&rt, store.failed_saves(), &["a"]);
+    check_names(&rt, store.failed_loads(), &[]);
+    Ok(())
+}
+
+#[test]
 fn mem_sink_keeps_what_it_has_room_for(rt: HostRuntime) -> Result<(), Fail> {
     let alloc = rt.alloc();
     let mut sink = MemSink::new(alloc, vec![in alloc; 0u32]?, 4)?;
@@ -77,6 +99,23 @@ fn file_store_notes_what_is_not_there(rt: HostRuntime) -> Result<(), Fail> {
         )
     );
     check_names(&rt, store.failed_loads(), &[name]);
+    Ok(())
+}
+
+#[test]
+fn file_store_saves_whole_files(rt: HostRuntime) -> Result<(), Fail> {
+    let mut path = env::temp_dir(&rt)?;
+    path.push("erim_io_file_store_saves")?;
+    let name = path.as_path().to_str().ok_or("no text")?;
+    let mut store = FileStore::new(rt.alloc(), &rt);
+    assert_eq!(rt; store.save(name, b"a longer text"), Ok(()));
+    assert_eq!(rt; store.save(name, b"abc"), Ok(()));
+    let held = load(rt.alloc(), &mut store, name, 99);
+    fs::remove_file(&rt, name)?;
+    assert_eq!(rt; held?.as_slice(), b"abc".as_slice());
+    let nowhere = "no such folder/no such file";
+    assert_eq!(rt; store.save(nowhere, b"abc"), Err(SaveFault::Failed));
+    check_names(&rt, store.failed_saves(), &[nowhere]);
     Ok(())
 }
 

@@ -1,5 +1,6 @@
 pub mod FetchLemmas
 pub mod ReadableLemmas
+pub mod PushLemmas
 pub mod WriteLemmas
 pub mod ArithmeticLemmas
 pub mod CallLemmas
@@ -8,5 +9,7 @@ pub mod LoadLemmas
 pub mod SegmentLemmas
 pub mod PartLemmas
 pub mod PublishLemmas
+pub mod LiveLemmas
+pub mod RefusedLemmas
 pub mod ProcessLemmas
 pub mod StartLemmas

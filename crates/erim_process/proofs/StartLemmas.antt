@@ -2,7 +2,7 @@
 use Rattle.std.proofs.Common.{◌≡◌, ◌≤◌, ℕ, ltb, ltb-false, ◌||◌, Bool, true, false, is_some, List, [], ◌∷◌, Option, Some, None, ap, sym, ◌∙◌, refl}
 use Rattle.erim_defs.specs.declared.machine.Thread.{Thread}
 use Rattle.erim_defs.specs.Pages.{RightsMap, ByteMap}
-use Rattle.erim_defs.specs.State.{Setup, State}
+use Rattle.erim_defs.specs.State.{Setup, State, any_live}
 use Rattle.erim_defs.specs.Code.{or_else}
 use Rattle.erim_defs.specs.declared.machine.Entry.{Entry}
 use Rattle.erim_defs.specs.Replay.{replay}
@@ -70,6 +70,11 @@ start_tame setup h =
     let wild = if_none (is_wild setup) NotYet (none_second (start_if (ltb setup.frames (frames_needed setup.image)) (TooFewFrames (frames_needed setup.image))) _ second) in
     let both = neither _ _ wild in
     record { safe = none_is _ both.0; sealed = both.1 }
+
+-- its thread is live
+pub start_live : (setup : Setup) (s : State) → s ≡ loaded setup → any_live s.threads ≡ true
+unfolding any_live first_thread loaded
+start_live setup s e = rw e refl
 
 pub replay_start : (setup : Setup) (entries : List Entry) (s : State) → entries ≡ [] → s ≡ loaded setup → replay setup entries ≡ Some s
 unfolding replay

@@ -1,5 +1,5 @@
 -- Readable bytes that are copied one by one.
-use Rattle.std.proofs.Common.{length, Result, Ok, Err, IsOk, is_ok, cond, ◌≡◌, ℕ, suc, ◌+◌, ◌-◌, ◌<◌, ◌≤◌, ◌^◌, ◌%◌, ◌∙◌, ◌++◌, ◌∷◌, [], List, Option, Some, None, Bool, sym, ap, refl, arith, inl, inr}
+use Rattle.std.proofs.Common.{length, ◌≡◌, ℕ, suc, ◌+◌, ◌-◌, ◌<◌, ◌≤◌, ◌^◌, ◌%◌, ◌∙◌, ◌++◌, ◌∷◌, [], List, Option, Some, None, Bool, sym, ap, refl, arith, inl, inr}
 use Rattle.std.proofs.lemmas.Bool.{le-ltb, cases_lt}
 use Rattle.std.proofs.lemmas.List.{append-nil, append_assoc, length-append}
 use Rattle.erim_defs.specs.declared.machine.Access.{Access}
@@ -68,11 +68,6 @@ only_byte bytes a v has =
 
 pub ended_at : (out total rest : List ℕ) → rest ≡ [] → out ++ rest ≡ total → out ≡ total
 ended_at out total rest e h = sym (ap (λ xs. out ++ xs) e ∙ append-nil out) ∙ h
-
--- a push with room to spare
-pub push_items : {T E X : Type 0} (r : Result T E) (ps xs : List X) (new : X) → IsOk r → xs ≡ cond (is_ok r) (ps ++ new ∷ []) ps → xs ≡ ps ++ new ∷ []
-push_items (Ok x) ps xs new h e = e
-push_items (Err x) ps xs new h e = cc
 
 pub pushed_length : (old new : List ℕ) (x : ℕ) → new ≡ old ++ x ∷ [] → length new ≡ length old + 1
 pushed_length old new x e = ap length e ∙ length-append old (x ∷ [])

@@ -3,6 +3,7 @@ pub mod Called
 pub mod Executes
 pub mod Stepping
 pub mod Loading
+pub mod Ended
 pub mod Recorded
 pub mod Replayed
 pub mod Starting

@@ -1,9 +1,12 @@
 //! A machine with the journal of its steps.
 
-ghost use Rattle.std.specs.Prelude.{◌≡◌, ◌≢◌, ◌↔◌, IsTrue, ℕ, ◌+◌, ◌*◌, ◌/◌, ◌%◌, IsSome, slice_index, ◌<◌, ◌≤◌, ◌++◌, ◌∷◌, ◌⊎◌, [], Some, None, IfOk, IfErr, length, slice_index_or};
+ghost use Rattle.std.specs.Prelude.{◌≡◌, ◌≢◌, ◌↔◌, IsTrue, ℕ, ◌+◌, ◌*◌, ◌/◌, ◌%◌, ◌^◌, true, IsSome, IsNone, slice_index, ◌<◌, ◌≤◌, ◌++◌, ◌∷◌, ◌⊎◌, [], Some, None, IfOk, IfErr, length, slice_index_or};
 ghost use Rattle.erim_defs.specs.declared.machine.Thread.{Thread};
 ghost use Rattle.erim_defs.specs.Pages.{word};
+ghost use Rattle.erim_defs.specs.State.{any_live};
 ghost use Rattle.erim_defs.specs.Step.{step};
+ghost use Rattle.page_store.specs.Answers.{HasBytes};
+ghost use Rattle.erim_process.specs.Ended.{IfRefused};
 ghost use Rattle.erim_process.specs.Recorded.{Recorded, state_of, IsRun};
 ghost use Rattle.erim_process.specs.Replayed.{setup_of};
 ghost use Rattle.erim_process.specs.Starting.{start_fault};
@@ -57,7 +60,8 @@ impl Process {
 
     /// The steps that were made.
     pub fn steps(&self) -> u32
-        ensures { result ≡ (state_of self.now).steps }
+        ensures value { result ≡ (state_of self.now).steps }
+        ensures within { result ≤ self.now.setup.budget }
     {
         self.machine.steps
     }
@@ -69,16 +73,21 @@ impl Process {
         self.machine.pages.rights(page)
     }
 
-    /// The entries of the steps that were made.
+    /// The entries of the steps that were made. Their replay is the state.
     pub fn journal(&self) -> &[Entry]
-        ensures { result.now ≡ self.now.journal }
+        ensures entries { result.now ≡ self.now.journal }
+        ensures run { IsRun self.now }
+        ensures few { length result.now ≤ 4194304 }
+        ensures counted { length result.now ≤ (state_of self.now).steps }
     {
         self.journal.as_slice()
     }
 
-    /// How the process ended, if it has.
+    /// How the process ended, if it has. If it hasn't, it has a live thread. A page that was refused is below 2^35.
     pub fn end(&self) -> Option<End>
-        ensures { result ≡ (state_of self.now).end }
+        ensures value { result ≡ (state_of self.now).end }
+        ensures live { IsNone result → any_live (state_of self.now).threads ≡ true }
+        ensures refused { IfRefused (λ page. page < 2 ^ 35) result }
     {
         self.machine.end
     }
@@ -99,7 +108,10 @@ impl Process {
 
     /// What the process was started with.
     pub fn setup(&self) -> &Setup
-        ensures { setup_of result.now ≡ self.now.setup }
+        ensures value { setup_of result.now ≡ self.now.setup }
+        ensures same { (state_of self.now).setup ≡ self.now.setup }
+        ensures budget { self.now.setup.budget ≤ 4194304 }
+        ensures frames { self.now.setup.frames ≤ 4096 }
     {
         &self.setup
     }
@@ -142,7 +154,8 @@ impl Process {
     pub fn word(&self, addr: u64) -> u64
         requires aligned { addr % 8 ≡ 0 }
         requires mapped { IsSome ((state_of self.now).rights (addr / 4096)) }
-        ensures { result ≡ word (state_of self.now).bytes addr 8 }
+        ensures value { result ≡ word (state_of self.now).bytes addr 8 }
+        ensures bytes { HasBytes (state_of self.now).bytes addr 8 result }
     {
         self.machine.pages.word(addr)
     }
@@ -153,7 +166,9 @@ impl Process {
         ensures answer { result ≡ answer (state_of self.old) thread }
         ensures journal { result ≡ Stepped.Made → self.new ≡ record { setup = self.old.setup; journal = self.old.journal ++ record { worker = worker; thread = thread; count = 1 } ∷ [] } }
         ensures state { result ≡ Stepped.Made → step thread (state_of self.old) ≡ Some (state_of self.new) }
+        ensures counted { result ≡ Stepped.Made → (state_of self.new).steps ≡ (state_of self.old).steps + 1 }
         ensures other { result ≢ Stepped.Made → self.new ≡ self.old }
+        ensures setup { self.new.setup ≡ self.old.setup }
         ensures run { IsRun self.new }
     {
         let budget = self.setup.budget;

@@ -9,17 +9,15 @@ ghost use Rattle.erim_process.specs.Machine.{machine_state, IsRoomy};
 ghost use Rattle.erim_process.specs.Replayed.{setup_of};
 ghost use Rattle.erim_process.specs.Starting.{start_fault};
 
+use crate::loading::load_pages;
 use crate::machine::Machine;
 use crate::setup::Setup;
-use crate::start::load_pages;
 use crate::start_fault::StartFault;
+use crate::writing::OUTPUT_LIMIT;
 use code_runs::{first_trusted, first_unsafe};
 use erim_defs::{Flags, Segment, Thread};
 use page_store::{Memory, PageList};
 use std::alloc::Global;
-
-/// How many bytes of output there may be.
-const OUTPUT_LIMIT: usize = 0x10_0000;
 
 /// How many threads there may be.
 const THREADS: usize = 16;
@@ -95,7 +93,7 @@ pub(crate) fn load_machine(alloc: Global, setup: &Setup) -> Result<Machine<PageL
     );
     let mut threads = Vec::with_capacity(alloc, THREADS)?;
     threads.push(first_thread(image.entry()))?;
-    let output = Vec::with_capacity(alloc, OUTPUT_LIMIT)?;
+    let output = Vec::with_capacity(alloc, OUTPUT_LIMIT as usize)?;
     Ok(Machine {
         pages,
         threads,

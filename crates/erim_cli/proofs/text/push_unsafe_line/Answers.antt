@@ -9,7 +9,7 @@ use Rattle.erim_cli.proofs.text.push_unsafe_line.Goals as goal
 pub returns : goal.returns
 unfolding unsafe_line
 returns c =
-    let shown : styled_digits_output c.in_radix.result c.laid_out.result ≡ Some (zero_filled (digits 16 false c.args.found.now.at)) =
+    let shown : styled_digits_output c.in_radix.result c.laid_out.result ≡ Some (zero_filled 12 (digits 16 false c.args.found.now.at)) =
     rw (c.in_radix.ensures, c.laid_out.ensures, zeros_in_front) refl in
     let h = rw (shown, c.kind_name-kind.ensures) at c.in_ok-writeln.ensures.bytes in
-    h ∙ unsafe_line_joins (string_bytes c.args.text.now) (codes "unsafe ") (kind_text c.args.found.now.kind) (codes " at ") (codes "0x") (zero_filled (digits 16 false c.args.found.now.at))
+    h ∙ unsafe_line_joins (string_bytes c.args.text.now) (codes "unsafe ") (kind_text c.args.found.now.kind) (codes " at ") (codes "0x") (zero_filled 12 (digits 16 false c.args.found.now.at))

@@ -1,7 +1,8 @@
 use Rattle.std.proofs.Common.{arith, ◌≡◌, ◌+◌, ◌%◌, ◌^◌, false, ◌∙◌, ap}
 use Rattle.erim_defs.specs.Access.{whole}
 use Rattle.page_store.specs.Answers.{rights_in}
-use Rattle.erim_process.proofs.WriteLemmas.{readable_now, readable_then, readable_low, taken_next, taken_nothing, pushed, push_items, pushed_length, ended_at}
+use Rattle.erim_process.proofs.PushLemmas.{push_items}
+use Rattle.erim_process.proofs.WriteLemmas.{readable_now, readable_then, readable_low, taken_next, taken_nothing, pushed, pushed_length, ended_at}
 use Rattle.erim_process.proofs.writing.write_out.Goals as goal
 
 pub byte_of-byte-requires : goal.byte_of-byte-requires

@@ -1,6 +1,7 @@
-use Rattle.std.proofs.Common.{sym, ◌∙◌, arith}
+use Rattle.std.proofs.Common.{arith}
 use Rattle.erim_process.specs.Replayed.{setup_of}
-use Rattle.erim_process.proofs.StartLemmas.{start_room, start_tame, replay_start}
+use Rattle.erim_process.proofs.StartLemmas.{start_live, start_room, start_tame, replay_start}
+use Rattle.erim_process.proofs.RefusedLemmas.{refused_start}
 use Rattle.erim_process.proofs.process.Process.start.Goals as goal
 
 pub load_machine-requires : goal.load_machine-requires
@@ -11,11 +12,13 @@ invariant_of-result c =
     let setup = setup_of c.args.setup in
     record {
       replayed = replay_start setup c.in_ok-journal.journal.items _ c.in_ok-journal.ensures.items c.in_ok-machine.ensures.state;
-      counted = c.in_ok-machine.ensures.fresh.0 ∙ sym c.in_ok-journal.ensures.len;
+      counted = (let none = c.in_ok-machine.ensures.fresh.0 in let len = c.in_ok-journal.ensures.len in omega (arith, none, len));
       room = (let e = c.in_ok-journal.ensures.exact in omega (arith, e));
       within = (let none = c.in_ok-machine.ensures.fresh.0 in omega (arith, none));
       accepted = c.in_ok-machine.ensures.accepted;
       tame = start_tame setup c.in_ok-check_start.ensures;
       roomy = c.in_ok-machine.ensures.roomy;
       few = (let one = c.in_ok-machine.ensures.fresh.1 in omega (arith, one));
+      alive = λ none. start_live setup _ c.in_ok-machine.ensures.state;
+      refused = refused_start setup _ c.in_ok-machine.ensures.state;
     }

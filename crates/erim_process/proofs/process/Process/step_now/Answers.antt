@@ -1,34 +1,32 @@
-use Rattle.std.proofs.Common.{sym, ap, ◌∙◌, refl, arith, Some}
+use Rattle.std.proofs.Common.{◌+◌, sym, ap, ◌∙◌, refl, arith, Some}
 use Rattle.erim_defs.specs.State.{State}
 use Rattle.erim_defs.specs.Step.{step}
+use Rattle.erim_process.specs.Recorded.{Recorded}
 use Rattle.erim_process.specs.Replayed.{setup_of}
 use Rattle.erim_process.specs.Stepping.{answer}
-use Rattle.erim_process.proofs.ProcessLemmas.{state_seen, state_is, fields_run, replay_goes, push_len}
-use Rattle.erim_process.proofs.PublishLemmas.{publishes_always}
-use Rattle.erim_process.proofs.WriteLemmas.{push_items}
+use Rattle.erim_process.proofs.ProcessLemmas.{state_seen, state_is, fields_run, publishes_held, replay_goes}
+use Rattle.erim_process.proofs.LiveLemmas.{step_live}
+use Rattle.erim_process.proofs.RefusedLemmas.{refused_step}
 use Rattle.erim_process.proofs.process.Process.step_now.Goals as goal
 
 pub invariant_of-self : goal.invariant_of-self
 invariant_of-self c =
     let p = c.self.inside in
     let held = c.self.invariant in
-    let publishes = publishes_always (setup_of p.setup) p.journal.items _ held.tame held.accepted held.replayed in
-    let made = c.in-Made.ensures.made (setup_of p.setup) refl (sym c.trust.ensures) publishes refl in
+    let made = c.in-Made.ensures.made (setup_of p.setup) refl (sym c.trust.ensures) (publishes_held _ p held) refl in
     let steps = c.in-Made.ensures.steps refl in
-    let counted = held.counted in
-    let room = held.room in
-    let ok = c.push.ensures.succeeds (omega (arith, steps.0, counted, room)) in
-    let pushed = push_items c.push.result p.journal.items c.push.new.self.items _ ok c.push.ensures.items in
-    let items = rw c.from.ensures at pushed in
+    let pushed = rw c.from.ensures at c.push.ensures.items in
     record {
-      replayed = replay_goes _ p c.step.new.self c.args.thread c.args.worker c.push.new.self.items held made items;
-      counted = (let more = push_len c.push.result _ _ ok c.push.ensures.len in omega (arith, more, counted, steps.1));
-      room = omega (arith, room, c.push.ensures.capacity);
+      replayed = replay_goes _ p c.step.new.self c.args.thread c.args.worker c.push.result c.push.new.self.items held steps.0 made c.push.ensures.succeeds pushed;
+      counted = (let counted = held.counted in omega (arith, c.push.ensures.upper_bound, counted, steps.1));
+      room = (let room = held.room in omega (arith, room, c.push.ensures.capacity));
       within = omega (arith, steps.0, steps.1);
       accepted = held.accepted;
       tame = held.tame;
       roomy = c.in-Made.ensures.roomy;
       few = (let count = c.in-Made.ensures.count in let few = held.few in omega (arith, count, few));
+      alive = λ none. step_live c.args.thread _ _ made;
+      refused = refused_step c.args.thread _ _ held.refused made;
     }
 
 pub returns-in-Made-clause-answer : goal.returns-in-Made-clause-answer
@@ -38,31 +36,35 @@ pub returns-in-Made-clause-state : goal.returns-in-Made-clause-state
 returns-in-Made-clause-state c = λ _.
     let p = c.self.inside in
     let held = c.self.invariant in
-    let publishes = publishes_always (setup_of p.setup) p.journal.items _ held.tame held.accepted held.replayed in
-    let made = c.in-Made.ensures.made (setup_of p.setup) refl (sym c.trust.ensures) publishes refl in
+    let made = c.in-Made.ensures.made (setup_of p.setup) refl (sym c.trust.ensures) (publishes_held _ p held) refl in
     let steps = c.in-Made.ensures.steps refl in
-    let counted = held.counted in
-    let room = held.room in
-    let ok = c.push.ensures.succeeds (omega (arith, steps.0, counted, room)) in
-    let pushed = push_items c.push.result p.journal.items c.push.new.self.items _ ok c.push.ensures.items in
-    let items = rw c.from.ensures at pushed in
-    let replayed = replay_goes _ p c.step.new.self c.args.thread c.args.worker c.push.new.self.items held made items in
+    let pushed = rw c.from.ensures at c.push.ensures.items in
+    let replayed = replay_goes _ p c.step.new.self c.args.thread c.args.worker c.push.result c.push.new.self.items held steps.0 made c.push.ensures.succeeds pushed in
     ap (λ (s : State). step c.args.thread s) (state_seen _ p _ c.self.view_is held)
     ∙ made ∙ ap Some (sym (state_is (record { setup = setup_of p.setup; journal = c.push.new.self.items }) _ replayed))
+
+pub returns-in-Made-clause-counted : goal.returns-in-Made-clause-counted
+returns-in-Made-clause-counted c = λ _.
+    let p = c.self.inside in
+    let held = c.self.invariant in
+    let made = c.in-Made.ensures.made (setup_of p.setup) refl (sym c.trust.ensures) (publishes_held _ p held) refl in
+    let steps = c.in-Made.ensures.steps refl in
+    let pushed = rw c.from.ensures at c.push.ensures.items in
+    let replayed = replay_goes _ p c.step.new.self c.args.thread c.args.worker c.push.result c.push.new.self.items held steps.0 made c.push.ensures.succeeds pushed in
+    ap (λ (s : State). s.steps) (state_is (record { setup = setup_of p.setup; journal = c.push.new.self.items }) _ replayed)
+    ∙ steps.1 ∙ sym (ap (λ (s : State). s.steps + 1) (state_seen _ p _ c.self.view_is held))
+
+pub returns-in-Made-clause-setup : goal.returns-in-Made-clause-setup
+returns-in-Made-clause-setup c = ap (λ (v : Recorded). v.setup) c.self.view_is
 
 pub returns-in-Made-clause-run : goal.returns-in-Made-clause-run
 returns-in-Made-clause-run c =
     let p = c.self.inside in
     let held = c.self.invariant in
-    let publishes = publishes_always (setup_of p.setup) p.journal.items _ held.tame held.accepted held.replayed in
-    let made = c.in-Made.ensures.made (setup_of p.setup) refl (sym c.trust.ensures) publishes refl in
+    let made = c.in-Made.ensures.made (setup_of p.setup) refl (sym c.trust.ensures) (publishes_held _ p held) refl in
     let steps = c.in-Made.ensures.steps refl in
-    let counted = held.counted in
-    let room = held.room in
-    let ok = c.push.ensures.succeeds (omega (arith, steps.0, counted, room)) in
-    let pushed = push_items c.push.result p.journal.items c.push.new.self.items _ ok c.push.ensures.items in
-    let items = rw c.from.ensures at pushed in
-    let replayed = replay_goes _ p c.step.new.self c.args.thread c.args.worker c.push.new.self.items held made items in
+    let pushed = rw c.from.ensures at c.push.ensures.items in
+    let replayed = replay_goes _ p c.step.new.self c.args.thread c.args.worker c.push.result c.push.new.self.items held steps.0 made c.push.ensures.succeeds pushed in
     fields_run (setup_of p.setup) c.push.new.self.items _ replayed
 
 pub returns-in-Ended-clause-answer : goal.returns-in-Ended-clause-answer

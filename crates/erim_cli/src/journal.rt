@@ -1,0 +1,37 @@
+//! The bytes of a journal as it is saved.
+
+ghost use Rattle.std.specs.Prelude.{◌≡◌, ◌++◌, ◌≤◌, length, OnOk, IfOk};
+ghost use Rattle.erim_defs.specs.Journal.{entry_bytes, journal_text};
+
+use erim_defs::{Entry, NoMemory};
+use std::alloc::{AllocError, Global};
+
+/// Appends the bytes of an entry.
+fn push_entry(bytes: &mut Vec<u8>, entry: &Entry) -> Result<(), AllocError>
+    ensures { OnOk result (bytes.new.items ≡ bytes.old.items ++ entry_bytes entry.now) }
+{
+    bytes.extend_from_slice(&entry.worker.to_le_bytes())?;
+    bytes.extend_from_slice(&entry.thread.to_le_bytes())?;
+    bytes.extend_from_slice(&entry.count.to_le_bytes())
+}
+
+/// The bytes of a journal of at most 4,194,304 entries.
+#[tactic(auto, unfolding(erim_defs::specs::Journal::journal_text))]
+pub fn write_journal(
+    alloc: Global,
+    entries: &[Entry],
+    budget: u32,
+    frames: u32,
+) -> Result<Vec<u8>, NoMemory>
+    requires { length entries.now ≤ 4194304 }
+    ensures { IfOk result (λ bytes. bytes.items ≡ journal_text budget frames entries.now) }
+{
+    let mut bytes = Vec::from_slice(alloc, b"ERIMJNL1")?;
+    bytes.extend_from_slice(&budget.to_le_bytes())?;
+    bytes.extend_from_slice(&frames.to_le_bytes())?;
+    bytes.extend_from_slice(&(entries.len() as u32).to_le_bytes())?;
+    for entry in entries {
+        push_entry(&mut bytes, entry)?;
+    }
+    Ok(bytes)
+}

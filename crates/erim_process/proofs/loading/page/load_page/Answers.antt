@@ -1,0 +1,19 @@
+use Rattle.std.proofs.Common.{Some, ap, ◌∙◌, ◌≡◌, true, false}
+use Rattle.erim_defs.specs.declared.machine.Rights.{Rights}
+use Rattle.erim_defs.specs.Pages.{put}
+use Rattle.erim_defs.specs.Access.{Seen}
+use Rattle.erim_defs.specs.Count.{mapped}
+use Rattle.erim_defs.proofs.CountLemmas.{mapped_more}
+use Rattle.page_store.specs.Answers.{rights_in}
+use Rattle.erim_process.proofs.LoadLemmas.{put_put}
+use Rattle.erim_process.proofs.loading.page.load_page.Goals as goal
+
+pub returns-clause-count : goal.returns-clause-count
+returns-clause-count g c =
+    let old = rights_in (g.P.Memory.seen c.args.pages.now) in
+    let first : Rights = record c.args.rights { write = true; exec = false } in
+    let rights : rights_in (g.P.Memory.seen c.set_rights.new.self) ≡ put old c.args.page (Some c.args.rights) =
+    ap rights_in c.set_rights.ensures.seen
+    ∙ ap (λ (s : Seen). put (rights_in s) c.args.page (Some c.args.rights)) (c.fill_page.ensures.seen ∙ c.map_zero.ensures.seen)
+    ∙ put_put old c.args.page (Some first) (Some c.args.rights) in
+    ap mapped rights ∙ mapped_more old c.args.page c.args.rights c.requires.page c.requires.unmapped
