@@ -1,5 +1,6 @@
 -- What checking an image leaves known, and what an image keeps of the bytes that it was read from.
 use Rattle.std.specs.Prelude.{◌≡◌, ℕ, ◌==◌, Result, MatchResult, Some, None, List}
+use Rattle.erim_defs.specs.Parts.{AreBytes}
 use Rattle.erim_defs.specs.declared.segment.Segment.{Segment}
 use Rattle.erim_defs.specs.declared.fault.ImageFault.{ImageFault}
 use Rattle.erim_defs.specs.declared.trust.Span.{Span}
@@ -32,6 +33,7 @@ spans_in kind rs = spans_of (λ r. r.kind == kind) rs
 -- the bytes are accepted, and the rest is what they tell
 pub record IsRead (bytes : List ℕ) (list : List Segment) (trust : TrustValue) (trusted heaps : List Span) (entry : ℕ) : Type 0 where
   pub accepted : IsAccepted bytes
+  pub octets : AreBytes bytes
   pub list_is : list ≡ segments bytes
   pub trust_is : trust ≡ image_trust bytes
   pub trusted_is : trusted ≡ image_data bytes

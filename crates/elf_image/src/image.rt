@@ -3,6 +3,7 @@
 ghost use Rattle.std.specs.Prelude.{◌≡◌, ℕ, ◌<◌, ◌≤◌, List, length, sum_by, false, IsTrue, MatchResult};
 ghost use Rattle.std.specs.List.{All, AllPairs};
 ghost use Rattle.erim_defs.specs.Image.{IsAccepted, entry_point, image_data, image_heaps, image_trust, is_in_file, is_in_user, page_count, page_total, segments, shares_page};
+ghost use Rattle.erim_defs.specs.Parts.{AreBytes};
 ghost use Rattle.elf_image.specs.Form.{IsSeen};
 
 use crate::field::entry_point;
@@ -45,6 +46,7 @@ impl Image {
         seen: NotesSeen,
     ) -> Result<Image, ImageFault>
         requires accepted { IsAccepted bytes.now }
+        requires octets { AreBytes bytes.now }
         requires notes { IsSeen bytes.now seen }
         ensures { MatchResult result (λ image. image ≡ bytes.now) (λ fault. fault ≡ ImageFault.Memory) }
     {
@@ -65,6 +67,7 @@ impl Image {
     pub fn bytes(&self) -> &[u8]
         ensures bytes { result.now ≡ self.now }
         ensures accepted { IsAccepted self.now }
+        ensures octets { AreBytes self.now }
     {
         self.bytes.as_slice()
     }

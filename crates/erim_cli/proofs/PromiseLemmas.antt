@@ -103,6 +103,7 @@ shown (Run image journal) bytes reply old new status is status_is text store =
       last = is.last;
       runs = is.runs;
       over = is.over;
+      isolated = is.isolated;
       saved = kept.held;
       text = rw is.answer at text;
       answer = status_is ∙ ap (λ (r : Reply). r.status) is.answer;

@@ -4,6 +4,7 @@ use Rattle.std.specs.Io.KnownBytes.{Appends}
 use Rattle.erim_io.specs.Store.{Name, Files, holding}
 use Rattle.erim_io.specs.Sink.{HasRisen}
 use Rattle.erim_defs.specs.declared.machine.Entry.{Entry}
+use Rattle.erim_defs.specs.Isolation.{IsIsolated}
 use Rattle.erim_defs.specs.Journal.{journal_text}
 use Rattle.erim_defs.specs.Replay.{replay, IsOver}
 use Rattle.erim_defs.specs.Report.{report}
@@ -42,12 +43,14 @@ pub record ShowsList (bytes : List ℕ) (old new : World) (status : ℕ) : Type 
   pub text : Appends old.written new.written (inspect_text (image_list bytes))
 
 -- entries that lead from the setup to an end or to where the budget is spent were saved under the journal's name,
--- and nothing else; the report of their replay was added to what was written; the status is that of its end
+-- and nothing else; the report of their replay was added to what was written; the status is that of its end; every state
+-- of this run, and of each other run of the image, keeps the isolation invariant
 pub record ShowsRun (journal : Name) (bytes : List ℕ) (old new : World) (status : ℕ) : Type 0 where
   pub entries : List Entry
   pub last : State
   pub runs : replay (run_setup bytes) entries ≡ Some last
   pub over : IsOver last
+  pub isolated : IsIsolated (run_setup bytes)
   pub saved : new.held ≡ holding journal (journal_text 1000000 1024 entries) old.held
   pub text : Appends old.written new.written (report entries last)
   pub answer : status ≡ end_status last.end

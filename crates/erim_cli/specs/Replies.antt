@@ -9,6 +9,7 @@ use Rattle.erim_defs.specs.declared.machine.End.TheVariants.{Exit, Fault, Refuse
 use Rattle.erim_defs.specs.declared.machine.Entry.{Entry}
 use Rattle.erim_defs.specs.Code.{or_else}
 use Rattle.erim_defs.specs.Image.{first_fault, image_code, image_entries}
+use Rattle.erim_defs.specs.Isolation.{IsIsolated}
 use Rattle.erim_defs.specs.Journal.{journal_text}
 use Rattle.erim_defs.specs.Replay.{replay, IsOver}
 use Rattle.erim_defs.specs.Report.{report}
@@ -96,12 +97,14 @@ ran_reply journal setup entries s = record {
   save = Some (record { name = journal; bytes = journal_text setup.budget setup.frames entries });
 }
 
--- the reply of a run whose entries lead from the setup to an end, or to where the budget is spent
+-- the reply of a run whose entries lead from the setup to an end, or to where the budget is spent; every state of it, and
+-- of each other run from the setup, keeps the isolation invariant
 pub record IsRunReply (journal : Name) (setup : Setup) (reply : Reply) : Type 0 where
   pub entries : List Entry
   pub last : State
   pub runs : replay setup entries ≡ Some last
   pub over : IsOver last
+  pub isolated : IsIsolated setup
   pub answer : reply ≡ ran_reply journal setup entries last
 
 -- ---- all commands

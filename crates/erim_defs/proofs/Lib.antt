@@ -1,3 +1,4 @@
+pub mod ByteLemmas
 pub mod CodeLemmas
 pub mod CountLemmas
 pub mod ImageLemmas

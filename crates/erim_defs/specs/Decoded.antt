@@ -1,41 +1,128 @@
--- What bytes begin with, as a function: the row of the table at the opcode and the byte behind it. Own. That it is what
--- `Decodes` says of all bytes is a law of `x86_decode`.
-use Rattle.std.specs.Prelude.{ℕ, ◌+◌, ◌%◌, ◌==◌, nat_lt, Bool, true, false, if◌then◌else◌, List, [], ◌∷◌, length, take, Option, Some, None}
+-- What bytes begin with, as a function: reading from the front by the table. Where bytes run out it counts how many are
+-- missing at the least. Own. That it is what `Decodes` says of all bytes is a law of `x86_decode`.
+use Rattle.std.specs.Prelude.{ℕ, zero, suc, ◌+◌, ◌-◌, Bool, true, false, ◌||◌, ◌==◌, nat_lt, nat_le, if◌then◌else◌, List, [], ◌∷◌, length, take, Option, Some, None, Result, Ok, Err}
+use Rattle.erim_defs.specs.declared.grammar.Lead.{Lead}
 use Rattle.erim_defs.specs.declared.grammar.Row.{Row}
+use Rattle.erim_defs.specs.declared.grammar.Stop.{Stop}
+use Rattle.erim_defs.specs.declared.grammar.Stop.TheVariants.{Undefined, Short}
 use Rattle.erim_defs.specs.declared.insn.Decoded.{Decoded}
-use Rattle.erim_defs.specs.declared.insn.Decoded.TheVariants.{Insn, Undefined, Short}
+use Rattle.erim_defs.specs.declared.insn.Decoded.TheVariants as answers
 use Rattle.erim_defs.specs.declared.insn.Place.TheVariants.{Reg}
+use Rattle.erim_defs.specs.Reading.{◌>>=◌, byte_at, chunk_at, operand_at}
+use Rattle.erim_defs.specs.Operand.{has_sib, disp_size}
 use Rattle.erim_defs.specs.Rows.{lines, lookup, any_modrm}
-use Rattle.erim_defs.specs.Verbs.{meaning}
-use Rattle.erim_defs.specs.Grammar.{start, fields_of}
+use Rattle.erim_defs.specs.Grammar.{Meant, means, admits, is_prefix, is_rex, start, with_f3, with_rex}
 
--- the row at an opcode and the byte behind it, with neither F3 nor REX.W before it
-abbrev pub row_of : Bool → ℕ → ℕ → Option Row
-row_of escape op m = lookup lines escape false false op m
+-- a row, where it admits what stands before it
+abbrev pub if_admitted : Lead → ℕ → Option Row → Option Row
+if_admitted lead m None = None
+if_admitted lead m (Some row) = if admits lead row m then Some row else None
 
--- by a row, where n bytes were read and the bytes of its number are next; every row's operand is a register so far
-abbrev pub decoded_row : Option Row → ℕ → ℕ → ℕ → List ℕ → Decoded
-decoded_row None op m n bytes = Undefined
-decoded_row (Some row) op m n bytes =
-    if nat_lt (length bytes) row.imm then Short else
-    Insn (meaning row.verb (fields_of (start 0 false false) op m (Reg (m % 8))) (take row.imm bytes)) (n + row.imm) 0
+-- the row at an opcode and the byte behind it
+unfoldable pub row_at : Lead → Bool → ℕ → ℕ → Option Row
+row_at lead escape op m = if_admitted lead m (lookup lines escape lead.f3 lead.rex.w op m)
 
--- by the byte behind the opcode
-abbrev pub decoded_modrm : Bool → ℕ → ℕ → List ℕ → Decoded
-decoded_modrm escape op n [] = Short
-decoded_modrm escape op n (m ∷ rest) = decoded_row (row_of escape op m) op m (n + 1) rest
+-- whether a ModRM byte stands behind an opcode
+unfoldable pub asks_at : Bool → ℕ → Bool
+asks_at escape op = any_modrm lines escape op
 
--- by the opcode, where n bytes were read
-abbrev pub decoded_opcode : Bool → ℕ → ℕ → List ℕ → Decoded
-decoded_opcode escape op n bytes =
-    if any_modrm lines escape op then decoded_modrm escape op n bytes else decoded_row (row_of escape op 0) op 0 n bytes
+-- the stop that asks for fewer bytes
+unfoldable pub sooner : Stop → Stop → Stop
+sooner (Short x) (Short y) = Short (if nat_lt x y then x else y)
+sooner Undefined b = b
+sooner (Short x) Undefined = Short x
 
--- by the opcode behind 0F
-abbrev pub decoded_escaped : List ℕ → Decoded
-decoded_escaped [] = Short
-decoded_escaped (op ∷ rest) = decoded_opcode true op 2 rest
+-- the least size of SIB and displacement
+unfoldable pub operand_len : ℕ → ℕ
+operand_len m = if has_sib m then 1 + disp_size m 0 else disp_size m 0
+
+-- what is missing from the ModRM byte m on, by its row
+unfoldable pub stop_of : Option Row → ℕ → Stop
+stop_of None m = Undefined
+stop_of (Some row) m = Short (1 + (operand_len m + row.imm))
+
+-- the least that is missing where ModRM is below n
+unfoldable pub least_modrm : (ℕ → Option Row) → ℕ → Stop
+least_modrm rows zero = Undefined
+least_modrm rows (suc n) = sooner (stop_of (rows n) n) (least_modrm rows n)
+
+-- what is missing where ModRM is
+unfoldable pub modrm_stop : Lead → Bool → ℕ → Stop
+modrm_stop lead escape op = least_modrm (row_at lead escape op) 256
+
+-- behind an opcode without ModRM
+unfoldable pub found_plain : Lead → ℕ → Option Row → List ℕ → Result (Meant × List ℕ) Stop
+found_plain lead op None bytes = Err Undefined
+found_plain lead op (Some row) bytes = do
+  i ← chunk_at row.imm 0 bytes
+  Ok (means lead op 0 row (Reg 0, 0) i.0, i.1)
+
+-- behind a ModRM byte m
+unfoldable pub found_modrm : Lead → ℕ → ℕ → Option Row → List ℕ → Result (Meant × List ℕ) Stop
+found_modrm lead op m None bytes = Err Undefined
+found_modrm lead op m (Some row) bytes = do
+  p ← operand_at lead.rex m row.imm bytes
+  i ← chunk_at row.imm 0 p.1
+  Ok (means lead op m row p.0 i.0, i.1)
+
+-- from the ModRM byte on
+unfoldable pub modrm_at : Lead → Bool → ℕ → List ℕ → Result (Meant × List ℕ) Stop
+modrm_at lead escape op bytes = do
+  m ← byte_at (modrm_stop lead escape op) bytes
+  found_modrm lead op m.0 (row_at lead escape op m.0) m.1
+
+-- behind an opcode
+unfoldable pub tail_at : Lead → Bool → ℕ → List ℕ → Result (Meant × List ℕ) Stop
+tail_at lead escape op bytes = if asks_at escape op then modrm_at lead escape op bytes else found_plain lead op (row_at lead escape op 0) bytes
+
+-- how many bytes an opcode begins at the least, by F0, 66, F3 and REX.B
+unfoldable pub least_body : Bool → Bool → Bool → Bool → Stop
+least_body true false false b = Short 2
+least_body false true false true = Short 3
+least_body false true false false = Short 1
+least_body false false true true = Short 3
+least_body false false true false = Short 1
+least_body false false false true = Short 1
+least_body false false false false = Short 1
+least_body l s f b = Undefined
+
+-- the same behind 0F, by F0, 66 and F3
+unfoldable pub least_second : Bool → Bool → Bool → Stop
+least_second true false false = Short 2
+least_second false true false = Short 2
+least_second false false true = Short 2
+least_second false false false = Short 1
+least_second l s f = Undefined
+
+-- from the opcode on
+unfoldable pub body_at : Lead → List ℕ → Result (Meant × List ℕ) Stop
+body_at lead bytes = do
+  x ← byte_at (least_body lead.lock lead.sized lead.f3 lead.rex.b) bytes
+  if x.0 == 0x0F then (byte_at (least_second lead.lock lead.sized lead.f3) x.1 >>= λ y. tail_at lead true y.0 y.1) else tail_at lead false x.0 x.1
+
+-- ---- what stands before the opcode
+
+-- from REX on
+unfoldable pub rex_at : Lead → List ℕ → Result (Meant × List ℕ) Stop
+rex_at lead [] = body_at lead []
+rex_at lead (b ∷ rest) = if is_rex b then body_at (with_rex lead b) rest else body_at lead (b ∷ rest)
+
+-- from F3 on
+unfoldable pub f3_at : Lead → List ℕ → Result (Meant × List ℕ) Stop
+f3_at lead [] = rex_at lead []
+f3_at lead (b ∷ rest) = if b == 0xF3 then rex_at (with_f3 lead) rest else rex_at lead (b ∷ rest)
+
+-- behind n prefixes
+unfoldable pub front_at : ℕ → Bool → Bool → List ℕ → Result (Meant × List ℕ) Stop
+front_at n lock sized [] = f3_at (start n lock sized) []
+front_at n lock sized (b ∷ rest) = if is_prefix b then front_at (n + 1) (lock || b == 0xF0) (sized || b == 0x66) rest else f3_at (start n lock sized) (b ∷ rest)
+
+-- what is read of bytes that are no more than a spelling can have
+abbrev pub answer : ℕ → Result (Meant × List ℕ) Stop → Decoded
+answer size (Ok x) = answers.Insn x.0.0 (size - length x.1) x.0.1
+answer size (Err (Short n)) = if nat_le (size + n) 15 then answers.Short else answers.Undefined
+answer size (Err Undefined) = answers.Undefined
 
 -- what bytes begin with: an instruction, the beginning of one, or neither
 unfoldable pub decoded : List ℕ → Decoded
-decoded [] = Short
-decoded (op ∷ rest) = if op == 0x0F then decoded_escaped rest else decoded_opcode false op 1 rest
+decoded bytes = answer (length (take 15 bytes)) (front_at 0 false false (take 15 bytes))

@@ -12,6 +12,7 @@ use Rattle.erim_defs.specs.Occurrence.{occurrence_at}
 use Rattle.erim_defs.specs.Safe.{Entries, opens_gate, unsafe_at}
 use Rattle.erim_defs.specs.Image.{IsAccepted, image_entries, trusted_code}
 use Rattle.erim_defs.specs.Pages.{RightsMap, ByteMap}
+use Rattle.erim_defs.specs.Parts.{AreBytes}
 use Rattle.erim_defs.specs.Meaning.{eax, reg}
 use Rattle.erim_defs.specs.State.{Setup, State, code, in_text, is_out}
 use Rattle.erim_defs.specs.Step.{asks_exec}
@@ -96,9 +97,14 @@ pub record IsKept (s : State) : Type 0 where
 -- a setup that can be started
 pub record IsStartable (setup : Setup) : Type 0 where
   pub accepted : IsAccepted setup.image
+  pub bytes : AreBytes setup.image
   pub safe : IsSafeCode (image_entries setup.image) (trusted_code setup.image)
   pub room : frames_needed setup.image ≤ setup.frames
 
 -- in every state that a legal list of entries leads to; a prefix of such a list is one itself
 abbrev pub AlwaysKept : Type 0
 AlwaysKept = (setup : Setup) (entries : List Entry) (s : State) → IsStartable setup → replay setup entries ≡ Some s → IsKept s
+
+-- the same of one setup: every state of each of its runs keeps the invariant
+abbrev pub IsIsolated : Setup → Type 0
+IsIsolated setup = (entries : List Entry) (s : State) → replay setup entries ≡ Some s → IsKept s

@@ -11,6 +11,7 @@ pub mod Access
 pub mod Count
 pub mod Parts
 pub mod Operand
+pub mod Reading
 pub mod Rows
 pub mod Verbs
 pub mod Grammar

@@ -80,13 +80,13 @@ jumped len rel t = record t { rip = (t.rip + len + cast_unsigned w64 rel) % 2 ^ 
 
 -- ---- what each kind wants; a write of 4 bytes to a register clears its upper half
 
--- a source of 4 bytes; no spelling so far has another
+-- a source of 4 bytes in a register or the instruction; no other is executed so far
 abbrev pub source : Thread → Src → Option ℕ
 source t (From (Reg n)) = Some (low_half (reg t n))
 source t (From place) = None
 source t (Imm i) = Some (cast_unsigned w32 i)
 
--- the kinds that no spelling has so far refuse
+-- the kinds that aren't executed so far refuse
 abbrev pub on_source : Option ℕ → (ℕ → Plan) → Plan
 on_source None k = Refuse
 on_source (Some x) k = k x
@@ -110,7 +110,7 @@ unfoldable pub plan_wrpkru : ℕ → Thread → Plan
 plan_wrpkru len t =
     if low_half (reg t 1) == 0 && low_half (reg t 2) == 0 then Give (record (onward len t) { pkru = eax t }) None else Refuse
 
--- the kinds that no spelling has so far refuse
+-- the kinds that aren't executed so far refuse
 unfoldable pub plan : Insn → ℕ → Thread → Plan
 plan (Alu Xor W4 (Reg n) src lock) len t = plan_alu Xor n src len t
 plan (Alu Cmp W4 (Reg n) src lock) len t = plan_alu Cmp n src len t

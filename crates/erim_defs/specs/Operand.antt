@@ -40,6 +40,6 @@ place_of rex m sib disp =
 abbrev pub WhereSib : {A : Type 0} → ℕ → (ℕ → List ℕ → A → Type 0) → List ℕ → A → Type 0
 WhereSib m S = Choose (has_sib m) (Byte S) (S 0)
 
--- SIB, the displacement, and then what the operand asks for
-abbrev pub Operand : {A : Type 0} → Rex → ℕ → (Place → List ℕ → A → Type 0) → List ℕ → A → Type 0
-Operand rex m S = WhereSib m (λ sib. Chunk (disp_size m sib) (λ disp. S (place_of rex m sib (signed disp))))
+-- SIB, the displacement, and then what the operand and the size of its displacement ask for
+abbrev pub Operand : {A : Type 0} → Rex → ℕ → (Place × ℕ → List ℕ → A → Type 0) → List ℕ → A → Type 0
+Operand rex m S = WhereSib m (λ sib. Chunk (disp_size m sib) (λ disp. S (place_of rex m sib (signed disp), disp_size m sib)))

@@ -56,7 +56,7 @@ get_or_any (x ∷ xs) (suc i) d e h = get_or_any xs i d e (omega arith)
 
 -- each page that asks to be executed can be published
 pub publishes_held : (g : Ghosts PageList) (p : Inside) → IsReplay g p → Publishes (machine_state g (setup_of p.setup) p.machine)
-publishes_held g p h = publishes_always (setup_of p.setup) p.journal.items (machine_state g (setup_of p.setup) p.machine) h.tame h.accepted h.replayed
+publishes_held g p h = publishes_always (setup_of p.setup) p.journal.items (machine_state g (setup_of p.setup) p.machine) h.tame h.startable.accepted h.replayed
 
 -- where steps are left there is room for an entry
 pub has_room : (g : Ghosts PageList) (p : Inside) → IsReplay g p → p.machine.steps < p.setup.budget → vec_len p.journal < vec_capacity p.journal

@@ -1,5 +1,6 @@
 -- The state at the start, field by field.
 use Rattle.std.proofs.Common.{◌≡◌, ◌≤◌, ℕ, ltb, ltb-false, ◌||◌, Bool, true, false, is_some, List, [], ◌∷◌, Option, Some, None, ap, sym, ◌∙◌, refl}
+use Rattle.erim_defs.specs.declared.found.Found.{Found}
 use Rattle.erim_defs.specs.declared.machine.Thread.{Thread}
 use Rattle.erim_defs.specs.Pages.{RightsMap, ByteMap}
 use Rattle.erim_defs.specs.State.{Setup, State, any_live}
@@ -46,6 +47,15 @@ none_second (Some s) y h = absurd cc
 if_none : (test : Bool) (fault : StartFault) → start_if test fault ≡ None → test ≡ false
 if_none true fault h = absurd cc
 if_none false fault h = refl
+
+-- where nothing keeps the image from starting, its trusted text holds nothing unsafe by itself
+pub start_trusted : (setup : Setup) → start_fault setup ≡ None → trusted_unsafe setup.image ≡ None
+unfolding start_fault
+start_trusted setup h = no_trusted (trusted_unsafe setup.image) (none_first (if_trusted (trusted_unsafe setup.image)) _ h)
+  where
+    no_trusted : (found : Option Found) → if_trusted found ≡ None → found ≡ None
+    no_trusted None h = refl
+    no_trusted (Some found) h = absurd cc
 
 -- where nothing keeps the image from starting there is room
 pub start_room : (setup : Setup) → start_fault setup ≡ None → frames_needed setup.image ≤ setup.frames

@@ -5,7 +5,7 @@ use Rattle.erim_defs.specs.Meaning.{Plan, Ask, Give, Refuse, Call}
 use Rattle.erim_process.specs.declared.exec.answer.Exec.{Exec}
 use Rattle.erim_process.specs.declared.exec.answer.Exec.TheVariants as exec
 
--- no instruction so far looks at memory
+-- no instruction that is executed so far looks at memory
 abbrev pub Executes : Plan → Thread → Thread → Exec → Type 0
 Executes (Give t None) old new r = (r ≡ exec.Done) × (new ≡ t)
 Executes (Give t (Some w)) old new r = ⊥

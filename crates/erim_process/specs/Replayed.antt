@@ -1,6 +1,6 @@
 -- What always holds of a process.
 use Rattle.std.specs.Prelude.{◌≡◌, ◌<◌, ◌≤◌, ◌^◌, Some, IsNone, true, length, vec_len, vec_capacity}
-use Rattle.erim_defs.specs.Image.{IsAccepted}
+use Rattle.erim_defs.specs.Isolation.{IsStartable}
 use Rattle.erim_defs.specs.State.{Setup, any_live}
 use Rattle.erim_defs.specs.Replay.{replay}
 use Rattle.page_store.specs.declared.memory.Memory.{Ghosts}
@@ -25,7 +25,7 @@ pub record IsReplay (g : Ghosts PageList) (p : Inside) : Type 0 where
   pub counted : vec_len p.journal ≤ p.machine.steps
   pub room : p.setup.budget ≤ vec_capacity p.journal
   pub within : p.machine.steps ≤ p.setup.budget
-  pub accepted : IsAccepted p.setup.image
+  pub startable : IsStartable (setup_of p.setup)
   pub tame : IsTame (setup_of p.setup)
   pub roomy : IsRoomy p.machine
   pub few : length p.machine.threads.items ≤ 16

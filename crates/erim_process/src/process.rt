@@ -2,6 +2,7 @@
 
 ghost use Rattle.std.specs.Prelude.{◌≡◌, ◌≢◌, ◌↔◌, IsTrue, ℕ, ◌+◌, ◌*◌, ◌/◌, ◌%◌, ◌^◌, true, IsSome, IsNone, slice_index, ◌<◌, ◌≤◌, ◌++◌, ◌∷◌, ◌⊎◌, [], Some, None, IfOk, IfErr, length, slice_index_or};
 ghost use Rattle.erim_defs.specs.declared.machine.Thread.{Thread};
+ghost use Rattle.erim_defs.specs.Isolation.{IsIsolated};
 ghost use Rattle.erim_defs.specs.Pages.{word};
 ghost use Rattle.erim_defs.specs.State.{any_live};
 ghost use Rattle.erim_defs.specs.Step.{step};
@@ -18,6 +19,7 @@ use crate::start_fault::StartFault;
 use crate::starting::{check_start, load_machine};
 use crate::stepped::Stepped;
 use erim_defs::{End, Entry, Escape, Rights, Thread};
+use isolation::{always_kept, startable};
 use page_store::{Memory, PageCopy, PageList, Pages};
 use std::alloc::Global;
 use std::marker::Model;
@@ -49,6 +51,7 @@ impl Process {
         ensures refused { IfErr result (λ fault. (fault ≡ StartFault.Memory) ⊎ (start_fault (setup_of setup) ≡ Some fault)) }
     {
         check_start(alloc, &setup)?;
+        startable();
         let machine = load_machine(alloc, &setup)?;
         let journal = Vec::with_capacity(alloc, setup.budget as usize)?;
         Ok(Process {
@@ -106,13 +109,15 @@ impl Process {
         self.machine.output.as_slice()
     }
 
-    /// What the process was started with.
+    /// What the process was started with. Every state of each run from it keeps the isolation invariant.
     pub fn setup(&self) -> &Setup
         ensures value { setup_of result.now ≡ self.now.setup }
         ensures same { (state_of self.now).setup ≡ self.now.setup }
         ensures budget { self.now.setup.budget ≤ 4194304 }
         ensures frames { self.now.setup.frames ≤ 4096 }
+        ensures isolated { IsIsolated self.now.setup }
     {
+        always_kept();
         &self.setup
     }
 

@@ -45,7 +45,7 @@ pub(crate) fn jump(thread: &mut Thread, len: u8, rel: i32)
         .wrapping_add(i64::from(rel).cast_unsigned());
 }
 
-/// The 32 bits that a register or an immediate gives. Nothing else is read so far.
+/// The 32 bits that a register or an immediate gives. No other source is executed so far.
 pub(crate) fn source(thread: &Thread, src: Src) -> Option<u32>
     ensures { result ≡ source thread.now src }
 {

@@ -2,6 +2,7 @@
 
 ghost use Rattle.std.specs.Prelude.{◌≡◌, ◌≤◌, ◌⊎◌, ◌&&◌, [], Some, None, IfOk, MatchResult, IsTrue, true, length};
 ghost use Rattle.std.specs.List.{list_any};
+ghost use Rattle.erim_defs.specs.Parts.{AreBytes};
 ghost use Rattle.erim_defs.specs.Image.{IsAccepted, entry_point, is_writable, is_executable};
 ghost use Rattle.erim_defs.specs.State.{Setup as Given};
 ghost use Rattle.erim_defs.specs.Start.{first_thread, frames_needed, loaded};
@@ -79,6 +80,7 @@ pub(crate) fn load_machine(alloc: Global, setup: &Setup) -> Result<Machine<PageL
     ensures roomy { IfOk result (λ machine. IsRoomy machine) }
     ensures fresh { IfOk result (λ machine. (machine.steps ≡ 0) × (length machine.threads.items ≡ 1)) }
     ensures accepted { IfOk result (λ _. IsAccepted setup.now.image) }
+    ensures octets { IfOk result (λ _. AreBytes setup.now.image) }
     ensures fault { MatchResult result (λ _. IsTrue true) (λ fault. fault ≡ StartFault.Memory) }
 {
     let image = &setup.image;

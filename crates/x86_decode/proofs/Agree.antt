@@ -3,8 +3,8 @@ use Rattle.std.proofs.Common.{◌≡◌, ℕ, ◌<◌, Bool, true, false, ◌||�
 use Rattle.std.proofs.lemmas.Bool.{ltb-true}
 use Rattle.erim_defs.specs.declared.grammar.Row.{Row}
 use Rattle.erim_defs.specs.Rows.{Line, lines, lookup, in_line, has_modrm, same_bool}
-use Rattle.x86_decode.specs.Coded.{one_coded, two_coded, one_modrm, two_modrm}
-use Rattle.x86_decode.specs.Decoding.{asks_at}
+use Rattle.x86_decode.specs.Coded.{one_coded, two_coded, alu_coded, middle_coded, high_coded, is_shift, one_modrm, two_modrm}
+use Rattle.erim_defs.specs.Decoded.{asks_at}
 use Rattle.erim_defs.specs.Grammar.{In}
 use Rattle.x86_decode.proofs.Lines.{every, fitting, pick, picks, pick_is, picks_is, hits, every_in, same_true}
 use Rattle.x86_decode.proofs.Tables.{table, tabulated}
@@ -17,35 +17,35 @@ abbrev Coded : Bool → Bool → Bool → Type 0
 Coded escape f3 w = table (λ op. table (pick (fitting lines escape f3 w op)) 256) 256 ≡ table (λ op. table (coded escape f3 w op) 256) 256
 
 coded_ttt : Coded true true true
-unfolding one_coded two_coded
+unfolding one_coded two_coded alu_coded middle_coded high_coded is_shift
 coded_ttt = refl
 
 coded_ttf : Coded true true false
-unfolding one_coded two_coded
+unfolding one_coded two_coded alu_coded middle_coded high_coded is_shift
 coded_ttf = refl
 
 coded_tft : Coded true false true
-unfolding one_coded two_coded
+unfolding one_coded two_coded alu_coded middle_coded high_coded is_shift
 coded_tft = refl
 
 coded_tff : Coded true false false
-unfolding one_coded two_coded
+unfolding one_coded two_coded alu_coded middle_coded high_coded is_shift
 coded_tff = refl
 
 coded_ftt : Coded false true true
-unfolding one_coded two_coded
+unfolding one_coded two_coded alu_coded middle_coded high_coded is_shift
 coded_ftt = refl
 
 coded_ftf : Coded false true false
-unfolding one_coded two_coded
+unfolding one_coded two_coded alu_coded middle_coded high_coded is_shift
 coded_ftf = refl
 
 coded_fft : Coded false false true
-unfolding one_coded two_coded
+unfolding one_coded two_coded alu_coded middle_coded high_coded is_shift
 coded_fft = refl
 
 coded_fff : Coded false false false
-unfolding one_coded two_coded
+unfolding one_coded two_coded alu_coded middle_coded high_coded is_shift
 coded_fff = refl
 
 coded_table : (escape f3 w : Bool) → Coded escape f3 w
@@ -112,11 +112,23 @@ few escape f3 w op m p q =
     (tabulated (λ m. nat_lt (picks (fitting lines escape f3 w op) m) 2) (λ m. true) 256
     (tabulated (λ n. few_of (fitting lines escape f3 w n)) (λ n. table (λ m. true) 256) 256 (few_table escape f3 w) op p) m q))
 
+-- whether the code asks for ModRM
+abbrev pub asks_coded : Bool → ℕ → Bool
+asks_coded escape op = if escape then two_modrm op else one_modrm op
+
+asks_table : (escape : Bool) → table (asks_at escape) 256 ≡ table (asks_coded escape) 256
+unfolding asks_at one_modrm two_modrm
+asks_table true = refl
+asks_table false = refl
+
+pub asks_is : (escape : Bool) (op : ℕ) → op < 256 → asks_at escape op ≡ asks_coded escape op
+asks_is escape op p = tabulated (asks_at escape) (asks_coded escape) 256 (asks_table escape) op p
+
 abbrev kind_fits : Bool → ℕ → Line → Bool
-kind_fits escape op line = not (in_line line escape op) || same_bool (has_modrm line.ask) (asks_at escape op)
+kind_fits escape op line = not (in_line line escape op) || same_bool (has_modrm line.ask) (asks_coded escape op)
 
 kind_table : (escape : Bool) → table (λ op. every (kind_fits escape op) lines) 256 ≡ table (λ op. true) 256
-unfolding asks_at one_modrm two_modrm
+unfolding one_modrm two_modrm
 kind_table true = refl
 kind_table false = refl
 
@@ -125,7 +137,7 @@ pub kind : (line : Line) (escape : Bool) (op : ℕ) → op < 256 → In lines li
 kind line escape op p i e =
     let all : every (kind_fits escape op) lines ≡ true = tabulated (λ n. every (kind_fits escape n) lines) (λ n. true) 256 (kind_table escape) op p in
     let here : kind_fits escape op line ≡ true = every_in (kind_fits escape op) lines line all i in
-    same_true (has_modrm line.ask) (asks_at escape op) (left_false (in_line line escape op) (same_bool (has_modrm line.ask) (asks_at escape op)) e here)
+    same_true (has_modrm line.ask) (asks_coded escape op) (left_false (in_line line escape op) (same_bool (has_modrm line.ask) (asks_coded escape op)) e here) ∙ sym (asks_is escape op p)
   where
     left_false : (a b : Bool) → a ≡ true → (not a || b) ≡ true → b ≡ true
     left_false true b p q = q

@@ -2,14 +2,13 @@
 use Rattle.std.proofs.Common.{◌≡◌, ℕ, ◌<◌, ◌&&◌, Bool, true, false, cond, List, [], ◌∷◌, Option, Some, None, refl, sym, ap, subst, ◌∙◌, arith}
 use Rattle.erim_defs.specs.declared.grammar.Lead.{Lead}
 use Rattle.erim_defs.specs.declared.grammar.Row.{Row}
-use Rattle.erim_defs.specs.declared.insn.Insn.{Insn}
 use Rattle.erim_defs.specs.Parts.{Byte, Choose, When}
-use Rattle.erim_defs.specs.Rows.{Line, Ask, NoModRM, Registers, Exactly, lines, hit, in_line, has_modrm, ask_fits, same_bool, w_fits}
-use Rattle.erim_defs.specs.Grammar.{In, After, Opcode, admits}
-use Rattle.x86_decode.specs.Decoding.{if_admitted, row_at, asks_at}
+use Rattle.erim_defs.specs.Rows.{Line, Ask, NoModRM, Any, AnyMemory, Ext, Memory, Exactly, lines, hit, lookup, in_line, has_modrm, ask_fits, same_bool, w_fits}
+use Rattle.erim_defs.specs.Grammar.{Meant, In, After, Opcode, admits}
+use Rattle.erim_defs.specs.Decoded.{if_admitted, row_at, asks_at}
 use Rattle.x86_decode.proofs.Parts.{when_to, when_back}
 use Rattle.x86_decode.proofs.Lines.{and_true, both_true, lookup_hit, lookup_found}
-use Rattle.x86_decode.proofs.Agree.{coded, coded_is, few, kind}
+use Rattle.x86_decode.proofs.Agree.{few, kind}
 use Rattle.x86_decode.proofs.Tails.{Found, OfPlain, OfModrm, Tail}
 
 -- ---- choices
@@ -28,11 +27,11 @@ pub choose_right : {A : Type 0} (b : Bool) (R S : List ℕ → A → Type 0) (t 
 choose_right false R S t a e h = h
 choose_right true R S t a e h = absurd cc
 
-found_some : (F : Row → List ℕ → Insn × ℕ → Type 0) (r : Option Row) (t : List ℕ) (a : Insn × ℕ) → Found F r t a → (row : Row) × (r ≡ Some row) × F row t a
+found_some : (F : Row → List ℕ → Meant → Type 0) (r : Option Row) (t : List ℕ) (a : Meant) → Found F r t a → (row : Row) × (r ≡ Some row) × F row t a
 found_some F None t a h = absurd h
 found_some F (Some row) t a h = (row, refl, h)
 
-found_is : (F : Row → List ℕ → Insn × ℕ → Type 0) (r : Option Row) (row : Row) (t : List ℕ) (a : Insn × ℕ) → r ≡ Some row → F row t a → Found F r t a
+found_is : (F : Row → List ℕ → Meant → Type 0) (r : Option Row) (row : Row) (t : List ℕ) (a : Meant) → r ≡ Some row → F row t a → Found F r t a
 found_is F r row t a e h = let P : Option Row → Type 0 = λ x. Found F x t a in subst P (sym e) h
 
 admitted : (lead : Lead) (m : ℕ) (r : Option Row) (row : Row) → if_admitted lead m r ≡ Some row → (r ≡ Some row) × (admits lead row m ≡ true)
@@ -83,8 +82,8 @@ escape_of line escape op h = same line.escape escape (and_true (same_bool line.e
 row_fits : (lead : Lead) (escape : Bool) (op m : ℕ) (row : Row) → op < 256 → m < 256 → row_at lead escape op m ≡ Some row → Fitting lead escape op m row
 unfolding row_at
 row_fits lead escape op m row p q e =
-    let a = admitted lead m (coded escape lead.f3 lead.rex.w op m) row e in
-    let f = lookup_found lines escape lead.f3 lead.rex.w op m row (coded_is escape lead.f3 lead.rex.w op m p q ∙ a.0) in
+    let a = admitted lead m (lookup lines escape lead.f3 lead.rex.w op m) row e in
+    let f = lookup_found lines escape lead.f3 lead.rex.w op m row a.0 in
     let line = f.0 in
     let one = and_true (in_line line escape op) (same_bool line.f3 lead.f3 && (w_fits line.w lead.rex.w && ask_fits line.ask m)) f.2 in
     let two = and_true (same_bool line.f3 lead.f3) (w_fits line.w lead.rex.w && ask_fits line.ask m) one.1 in
@@ -104,20 +103,23 @@ row_fits lead escape op m row p q e =
 line_row : (lead : Lead) (escape : Bool) (op m : ℕ) (line : Line) → op < 256 → m < 256 → In lines line → line.escape ≡ escape → at_line line lead op ≡ true → ask_fits line.ask m ≡ true → admits lead line.row m ≡ true → row_at lead escape op m ≡ Some line.row
 unfolding row_at
 line_row lead escape op m line p q i e h k a =
-    admitted_is lead m (coded escape lead.f3 lead.rex.w op m) line.row
-    (sym (coded_is escape lead.f3 lead.rex.w op m p q) ∙ lookup_hit lines line escape lead.f3 lead.rex.w op m i (hit_of line lead escape op m e h k) (few escape lead.f3 lead.rex.w op m p q)) a
+    admitted_is lead m (lookup lines escape lead.f3 lead.rex.w op m) line.row
+    (lookup_hit lines line escape lead.f3 lead.rex.w op m i (hit_of line lead escape op m e h k) (few escape lead.f3 lead.rex.w op m p q)) a
 
 plain_asks : (ask : Ask) (m : ℕ) → has_modrm ask ≡ false → ask_fits ask m ≡ true
 plain_asks NoModRM m e = refl
-plain_asks Registers m e = absurd cc
+plain_asks Any m e = refl
+plain_asks AnyMemory m e = absurd cc
+plain_asks (Ext r) m e = absurd cc
+plain_asks (Memory r) m e = absurd cc
 plain_asks (Exactly r) m e = absurd cc
 
 -- ---- opcodes of one map
 
-unfoldable pub Opcoded : Lead → Bool → List ℕ → Insn × ℕ → Type 0
+unfoldable pub Opcoded : Lead → Bool → List ℕ → Meant → Type 0
 Opcoded lead escape text a = (line : Line) × In lines line × (line.escape ≡ escape) × Opcode line lead text a
 
-pub opcoded_to : (lead : Lead) (escape : Bool) (t : List ℕ) (a : Insn × ℕ) → Opcoded lead escape t a → Byte (Tail lead escape) t a
+pub opcoded_to : (lead : Lead) (escape : Bool) (t : List ℕ) (a : Meant) → Opcoded lead escape t a → Byte (Tail lead escape) t a
 unfolding Opcoded Tail
 opcoded_to lead escape [] a h = absurd h.3
 opcoded_to lead escape (op ∷ u) a h =
@@ -144,15 +146,15 @@ opcoded_to lead escape (op ∷ u) a h =
         let both = and_true (ask_fits line.ask m) (admits lead line.row m) w.0 in
         (p.0, found_is (OfModrm lead op m) (row_at lead escape op m) line.row v a (line_row lead escape op m line lt p.0 i e at both.0 both.1) w.1)
 
-pub opcoded_back : (lead : Lead) (escape : Bool) (t : List ℕ) (a : Insn × ℕ) → Byte (Tail lead escape) t a → Opcoded lead escape t a
+pub opcoded_back : (lead : Lead) (escape : Bool) (t : List ℕ) (a : Meant) → Byte (Tail lead escape) t a → Opcoded lead escape t a
 unfolding Opcoded Tail
 opcoded_back lead escape [] a h = absurd h
 opcoded_back lead escape (op ∷ u) a h = by_asks (asks_at escape op) refl h.1
   where
-    Modrm : Line → List ℕ → Insn × ℕ → Type 0
+    Modrm : Line → List ℕ → Meant → Type 0
     Modrm line = Byte (λ m. When (ask_fits line.ask m && admits lead line.row m) (OfModrm lead op m line.row))
 
-    Plain : Line → List ℕ → Insn × ℕ → Type 0
+    Plain : Line → List ℕ → Meant → Type 0
     Plain line = When (admits lead line.row 0) (OfPlain lead op line.row)
 
     done : (m : ℕ) (row : Row) (f : Fitting lead escape op m row) → After f.line lead op u a → Opcoded lead escape (op ∷ u) a

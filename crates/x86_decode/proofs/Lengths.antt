@@ -1,50 +1,44 @@
--- The lengths of what is decoded.
-use Rattle.std.proofs.Common.{◌≡◌, ℕ, ◌+◌, ◌<◌, ◌≤◌, Bool, true, false, cond, eqb, ltb, List, [], ◌∷◌, length, take, Option, Some, None, sym, subst, arith}
-use Rattle.std.proofs.lemmas.List.{length-take-le}
-use Rattle.erim_defs.specs.declared.grammar.Row.{Row}
+-- The lengths of what is spelled.
+use Rattle.std.proofs.Common.{◌≡◌, ℕ, ◌+◌, ◌<◌, Bool, true, false, List, [], ◌∷◌, ◌++◌, length, take, Option, Some, None, ap, arith}
+use Rattle.std.proofs.lemmas.List.{length-append, length-take-le}
+use Rattle.erim_defs.specs.declared.grammar.Lead.{Lead}
 use Rattle.erim_defs.specs.declared.insn.Decoded.{Decoded}
-use Rattle.erim_defs.specs.declared.insn.Decoded.TheVariants.{Insn, Undefined, Short}
+use Rattle.erim_defs.specs.declared.insn.Decoded.TheVariants as answers
+use Rattle.erim_defs.specs.Grammar.{Meant, Written, f3_bytes, rex_bytes, lead_of, Body, start, with_f3, with_rex}
 use Rattle.erim_defs.specs.Decodes.{Decodes}
-use Rattle.erim_defs.specs.Rows.{lines, any_modrm}
-use Rattle.erim_defs.specs.Decoded.{decoded, row_of, decoded_row, decoded_modrm, decoded_opcode, decoded_escaped}
 use Rattle.x86_decode.specs.Whole.{IsWhole}
+use Rattle.x86_decode.proofs.Fronts.{body_empty}
+use Rattle.x86_decode.proofs.Says.{body_says}
 
-abbrev Sized : Decoded → Type 0
-Sized (Insn insn len skip) = (0 < len) × (skip ≤ len)
-Sized Undefined = Unit {0}
-Sized Short = Unit {0}
+pub lead_skip : (prefixes : List ℕ) (f3 : Bool) (rex : Option ℕ) → (lead_of prefixes f3 rex).skip ≡ length prefixes + (length (f3_bytes f3) + length (rex_bytes rex))
+unfolding start with_f3 with_rex
+lead_skip prefixes true (Some b) = omega arith
+lead_skip prefixes true None = omega arith
+lead_skip prefixes false (Some b) = omega arith
+lead_skip prefixes false None = omega arith
 
-either : (b : Bool) (x y : Decoded) → Sized x → Sized y → Sized (cond b x y)
-either true x y h k = h
-either false x y h k = k
+body_long : (lead : Lead) (t : List ℕ) (a : Meant) → Body lead t a → 0 < length t
+body_long lead [] a h = absurd (body_empty lead a h)
+body_long lead (b ∷ u) a h = omega arith
 
-sized_row : (row : Option Row) (op m n : ℕ) (bytes : List ℕ) → 0 < n → Sized (decoded_row row op m n bytes)
-sized_row None op m n bytes h = tt
-sized_row (Some row) op m n bytes h = either (ltb (length bytes) row.imm) Short _ tt (omega (arith, h), omega arith)
-
-sized_modrm : (escape : Bool) (op n : ℕ) (bytes : List ℕ) → 0 < n → Sized (decoded_modrm escape op n bytes)
-sized_modrm escape op n [] h = tt
-sized_modrm escape op n (m ∷ rest) h = sized_row (row_of escape op m) op m (n + 1) rest (omega (arith, h))
-
-sized_opcode : (escape : Bool) (op n : ℕ) (bytes : List ℕ) → 0 < n → Sized (decoded_opcode escape op n bytes)
-sized_opcode escape op n bytes h = either (any_modrm lines escape op) _ _ (sized_modrm escape op n bytes h) (sized_row (row_of escape op 0) op 0 n bytes h)
-
-sized_escaped : (bytes : List ℕ) → Sized (decoded_escaped bytes)
-sized_escaped [] = tt
-sized_escaped (op ∷ rest) = sized_opcode true op 2 rest (omega arith)
-
-sized : (bytes : List ℕ) → Sized (decoded bytes)
-unfolding decoded
-sized [] = tt
-sized (op ∷ rest) = either (eqb op 0x0F) _ _ (sized_escaped rest) (sized_opcode false op 1 rest (omega arith))
+-- the opcode stands in the bytes, behind skip of them
+pub written_long : (bytes : List ℕ) (a : Meant) → Written bytes a → a.1 < length bytes
+written_long bytes a w =
+    let lead = lead_of w.prefixes w.f3 w.rex in
+    let says : a.1 ≡ lead.skip = (body_says lead w.body a w.line).bare in
+    let skip = lead_skip w.prefixes w.f3 w.rex in
+    let more = body_long lead w.body a w.line in
+    let one = length-append w.prefixes (f3_bytes w.f3 ++ (rex_bytes w.rex ++ w.body)) in
+    let two = length-append (f3_bytes w.f3) (rex_bytes w.rex ++ w.body) in
+    let three = length-append (rex_bytes w.rex) w.body in
+    omega (arith, says, skip, more, ap length w.parts, one, two, three)
 
 -- what is decoded exactly has whole lengths
-pub is_whole : (bytes : List ℕ) (result : Decoded) → Decodes bytes result → result ≡ decoded bytes → IsWhole bytes result
-is_whole bytes (Insn insn len skip) d e =
-    let P : Decoded → Type 0 = λ r. Sized r in
-    let s : Sized (Insn insn len skip) = subst P (sym e) (sized bytes) in
+pub is_whole : (bytes : List ℕ) (result : Decoded) → Decodes bytes result → IsWhole bytes result
+is_whole bytes (answers.Insn insn len skip) d =
     let long = d.1.long in
     let taken : length (take len bytes) ≡ len = length-take-le len bytes d.0 in
-    (s.0, omega (arith, long, taken), d.0, s.1)
-is_whole bytes Undefined d e = tt
-is_whole bytes Short d e = tt
+    let front : skip < length (take len bytes) = written_long (take len bytes) (insn, skip, d.1.disp, d.1.imm) d.1.written in
+    (omega (arith, taken, front), omega (arith, long, taken), d.0, omega (arith, taken, front))
+is_whole bytes answers.Undefined d = tt
+is_whole bytes answers.Short d = tt

@@ -7,7 +7,10 @@ pub mod Tails
 pub mod Bodies
 pub mod Stops
 pub mod Whole
+pub mod Fronts
 pub mod Spelled
 pub mod Function
-pub mod Spellings
+pub mod Says
 pub mod Lengths
+pub mod Layouts
+pub mod Spellings

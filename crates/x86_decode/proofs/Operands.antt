@@ -2,9 +2,9 @@
 use Rattle.std.proofs.Common.{ℕ, ◌+◌, ◌≤◌, ◌/◌, ◌%◌, ◌==◌, ◌&&◌, ◌||◌, Bool, true, false, cond, List, Result, Ok, sym, subst, arith, if◌then◌else◌}
 use Rattle.erim_defs.specs.declared.grammar.Rex.{Rex}
 use Rattle.erim_defs.specs.declared.insn.Place.{Place}
-use Rattle.x86_decode.specs.declared.reading.Stop.{Stop}
-use Rattle.x86_decode.specs.declared.reading.Stop.TheVariants.{Short}
-use Rattle.x86_decode.specs.Reading.{byte_at, chunk_at, ◌>>=◌, sib_at, operand_at}
+use Rattle.erim_defs.specs.declared.grammar.Stop.{Stop}
+use Rattle.erim_defs.specs.declared.grammar.Stop.TheVariants.{Short}
+use Rattle.erim_defs.specs.Reading.{byte_at, chunk_at, ◌>>=◌, sib_at, operand_at}
 use Rattle.erim_defs.specs.Parts.{signed, AreBytes, Byte, Chunk, Choose}
 use Rattle.x86_decode.specs.Exact.{Exact, IsFree}
 use Rattle.erim_defs.specs.Operand.{has_sib, disp_size, place_of, Operand}
@@ -26,17 +26,17 @@ disp_low m sib = by_bools (m / 64 == 0) (m % 8 == 5) (m % 8 == 4) (sib % 8 == 5)
     by_bools true false false d x = omega arith
     by_bools false b c d x = omega arith
 
-Behind : {A : Type 0} → Rex → ℕ → (Place → List ℕ → A → Type 0) → ℕ → List ℕ → A → Type 0
-Behind rex m S sib = Chunk (disp_size m sib) (λ disp. S (place_of rex m sib (signed disp)))
+Behind : {A : Type 0} → Rex → ℕ → (Place × ℕ → List ℕ → A → Type 0) → ℕ → List ℕ → A → Type 0
+Behind rex m S sib = Chunk (disp_size m sib) (λ disp. S (place_of rex m sib (signed disp), disp_size m sib))
 
-behind_sized : {A : Type 0} (rex : Rex) (m : ℕ) (S : Place → List ℕ → A → Type 0) (least : ℕ) → ((p : Place) → Sized (S p) least) → (sib : ℕ) → Sized (Behind rex m S sib) (disp_size m sib + least)
+behind_sized : {A : Type 0} (rex : Rex) (m : ℕ) (S : Place × ℕ → List ℕ → A → Type 0) (least : ℕ) → ((p : Place × ℕ) → Sized (S p) least) → (sib : ℕ) → Sized (Behind rex m S sib) (disp_size m sib + least)
 unfolding Behind
-behind_sized rex m S least tails sib = chunk_sized (disp_size m sib) (λ disp. S (place_of rex m sib (signed disp))) least (λ front _ _. tails (place_of rex m sib (signed front)))
+behind_sized rex m S least tails sib = chunk_sized (disp_size m sib) (λ disp. S (place_of rex m sib (signed disp), disp_size m sib)) least (λ front _ _. tails (place_of rex m sib (signed front), disp_size m sib))
 
-sib_sized : {A : Type 0} (rex : Rex) (m : ℕ) (S : Place → List ℕ → A → Type 0) (least : ℕ) → ((p : Place) → Sized (S p) least) → Sized (Byte (Behind rex m S)) (1 + (disp_size m 0 + least))
+sib_sized : {A : Type 0} (rex : Rex) (m : ℕ) (S : Place × ℕ → List ℕ → A → Type 0) (least : ℕ) → ((p : Place × ℕ) → Sized (S p) least) → Sized (Byte (Behind rex m S)) (1 + (disp_size m 0 + least))
 sib_sized rex m S least tails = byte_sized (Behind rex m S) (disp_size m 0 + least) 0 (omega arith) (behind_sized rex m S least tails 0) (λ c u a lt h. let low = (behind_sized rex m S least tails c).low u a h in omega (arith, disp_low m c))
 
-pub operand_sized : {A : Type 0} (rex : Rex) (m : ℕ) (S : Place → List ℕ → A → Type 0) (least : ℕ) → ((p : Place) → Sized (S p) least) → Sized (Operand rex m S) (operand_size m + least)
+pub operand_sized : {A : Type 0} (rex : Rex) (m : ℕ) (S : Place × ℕ → List ℕ → A → Type 0) (least : ℕ) → ((p : Place × ℕ) → Sized (S p) least) → Sized (Operand rex m S) (operand_size m + least)
 unfolding Behind
 operand_sized {A} rex m S least tails = by_sib (has_sib m)
   where
@@ -45,31 +45,31 @@ operand_sized {A} rex m S least tails = by_sib (has_sib m)
     by_sib false = let h : Sized (Behind rex m S 0) (disp_size m 0 + least) = behind_sized rex m S least tails 0 in record { text = h.text; value = h.value; spelled = h.spelled; long = omega (arith, h.long); low = λ u a p. omega (arith, h.low u a p) }
 
 -- reading behind the SIB byte
-behind_exact : {A : Type 0} (rex : Rex) (m : ℕ) (S : Place → List ℕ → A → Type 0) (s : Place × List ℕ → Result (A × List ℕ) Stop) (least : ℕ) → ((p : Place) → Sized (S p) least) → ((p : Place) (rest : List ℕ) → AreBytes rest → Exact (S p) rest (s (p, rest))) → (sib : ℕ) (bytes : List ℕ) → AreBytes bytes → Exact (Behind rex m S sib) bytes (chunk_at (disp_size m sib) least bytes >>= λ d. s (place_of rex m sib (signed d.0), d.1))
+behind_exact : {A : Type 0} (rex : Rex) (m : ℕ) (S : Place × ℕ → List ℕ → A → Type 0) (s : (Place × ℕ) × List ℕ → Result (A × List ℕ) Stop) (least : ℕ) → ((p : Place × ℕ) → Sized (S p) least) → ((p : Place × ℕ) (rest : List ℕ) → AreBytes rest → Exact (S p) rest (s (p, rest))) → (sib : ℕ) (bytes : List ℕ) → AreBytes bytes → Exact (Behind rex m S sib) bytes (chunk_at (disp_size m sib) least bytes >>= λ d. s ((place_of rex m sib (signed d.0), disp_size m sib), d.1))
 unfolding Behind
 behind_exact rex m S s least tails each sib bytes h =
-    chunk_exact (disp_size m sib) (λ disp. S (place_of rex m sib (signed disp))) (λ d. s (place_of rex m sib (signed d.0), d.1)) least (λ front _ _. tails (place_of rex m sib (signed front))) (λ front rest _ _ are. each (place_of rex m sib (signed front)) rest are) bytes h
+    chunk_exact (disp_size m sib) (λ disp. S (place_of rex m sib (signed disp), disp_size m sib)) (λ d. s ((place_of rex m sib (signed d.0), disp_size m sib), d.1)) least (λ front _ _. tails (place_of rex m sib (signed front), disp_size m sib)) (λ front rest _ _ are. each (place_of rex m sib (signed front), disp_size m sib) rest are) bytes h
 
-pub operand_exact : {A : Type 0} (rex : Rex) (m : ℕ) (S : Place → List ℕ → A → Type 0) (s : Place × List ℕ → Result (A × List ℕ) Stop) (least : ℕ) → ((p : Place) → Sized (S p) least) → ((p : Place) (rest : List ℕ) → AreBytes rest → Exact (S p) rest (s (p, rest))) → (bytes : List ℕ) → AreBytes bytes → Exact (Operand rex m S) bytes (operand_at rex m least bytes >>= s)
+pub operand_exact : {A : Type 0} (rex : Rex) (m : ℕ) (S : Place × ℕ → List ℕ → A → Type 0) (s : (Place × ℕ) × List ℕ → Result (A × List ℕ) Stop) (least : ℕ) → ((p : Place × ℕ) → Sized (S p) least) → ((p : Place × ℕ) (rest : List ℕ) → AreBytes rest → Exact (S p) rest (s (p, rest))) → (bytes : List ℕ) → AreBytes bytes → Exact (Operand rex m S) bytes (operand_at rex m least bytes >>= s)
 unfolding operand_at sib_at Behind
 operand_exact {A} rex m S s least tails each bytes h =
-    let next : ℕ × List ℕ → Result (Place × List ℕ) Stop = λ s. chunk_at (disp_size m s.0) least s.1 >>= λ d. Ok (place_of rex m s.0 (signed d.0), d.1) in
+    let next : ℕ × List ℕ → Result ((Place × ℕ) × List ℕ) Stop = λ s. chunk_at (disp_size m s.0) least s.1 >>= λ d. Ok ((place_of rex m s.0 (signed d.0), disp_size m s.0), d.1) in
     let P : Result (A × List ℕ) Stop → Type 0 = Exact (Operand rex m S) bytes in
     subst P (sym (then_then (sib_at m least bytes) next s)) (by_sib (has_sib m))
   where
-    tail : (sib : ℕ) (rest : List ℕ) → AreBytes rest → Exact (Behind rex m S sib) rest ((chunk_at (disp_size m sib) least rest >>= λ d. Ok (place_of rex m sib (signed d.0), d.1)) >>= s)
-    tail sib rest are = let P : Result (A × List ℕ) Stop → Type 0 = Exact (Behind rex m S sib) rest in subst P (sym (then_then (chunk_at (disp_size m sib) least rest) (λ d. Ok (place_of rex m sib (signed d.0), d.1)) s)) (behind_exact rex m S s least tails each sib rest are)
+    tail : (sib : ℕ) (rest : List ℕ) → AreBytes rest → Exact (Behind rex m S sib) rest ((chunk_at (disp_size m sib) least rest >>= λ d. Ok ((place_of rex m sib (signed d.0), disp_size m sib), d.1)) >>= s)
+    tail sib rest are = let P : Result (A × List ℕ) Stop → Type 0 = Exact (Behind rex m S sib) rest in subst P (sym (then_then (chunk_at (disp_size m sib) least rest) (λ d. Ok ((place_of rex m sib (signed d.0), disp_size m sib), d.1)) s)) (behind_exact rex m S s least tails each sib rest are)
 
-    by_sib : (b : Bool) → Exact (Choose b (Byte (Behind rex m S)) (Behind rex m S 0)) bytes ((if b then byte_at (Short (1 + (disp_size m 0 + least))) bytes else Ok (0, bytes)) >>= λ x. (chunk_at (disp_size m x.0) least x.1 >>= λ d. Ok (place_of rex m x.0 (signed d.0), d.1)) >>= s)
-    by_sib true = byte_exact (Behind rex m S) (λ x. (chunk_at (disp_size m x.0) least x.1 >>= λ d. Ok (place_of rex m x.0 (signed d.0), d.1)) >>= s) (Short (1 + (disp_size m 0 + least))) (omega arith, sib_sized rex m S least tails) (λ b rest _ are. tail b rest are) bytes h
+    by_sib : (b : Bool) → Exact (Choose b (Byte (Behind rex m S)) (Behind rex m S 0)) bytes ((if b then byte_at (Short (1 + (disp_size m 0 + least))) bytes else Ok (0, bytes)) >>= λ x. (chunk_at (disp_size m x.0) least x.1 >>= λ d. Ok ((place_of rex m x.0 (signed d.0), disp_size m x.0), d.1)) >>= s)
+    by_sib true = byte_exact (Behind rex m S) (λ x. (chunk_at (disp_size m x.0) least x.1 >>= λ d. Ok ((place_of rex m x.0 (signed d.0), disp_size m x.0), d.1)) >>= s) (Short (1 + (disp_size m 0 + least))) (omega arith, sib_sized rex m S least tails) (λ b rest _ are. tail b rest are) bytes h
     by_sib false = tail 0 bytes h
 
-pub operand_free : {A : Type 0} (rex : Rex) (m : ℕ) (S : Place → List ℕ → A → Type 0) → ((p : Place) → IsFree (S p)) → IsFree (Operand rex m S)
+pub operand_free : {A : Type 0} (rex : Rex) (m : ℕ) (S : Place × ℕ → List ℕ → A → Type 0) → ((p : Place × ℕ) → IsFree (S p)) → IsFree (Operand rex m S)
 unfolding Behind
 operand_free {A} rex m S each = by_sib (has_sib m)
   where
     behind : (sib : ℕ) → IsFree (Behind rex m S sib)
-    behind sib = chunk_free (disp_size m sib) (λ disp. S (place_of rex m sib (signed disp))) (λ front _ _. each (place_of rex m sib (signed front)))
+    behind sib = chunk_free (disp_size m sib) (λ disp. S (place_of rex m sib (signed disp), disp_size m sib)) (λ front _ _. each (place_of rex m sib (signed front), disp_size m sib))
 
     by_sib : (b : Bool) → IsFree (Choose b (Byte (Behind rex m S)) (Behind rex m S 0))
     by_sib true = byte_free (Behind rex m S) (λ b _. behind b)

@@ -2,12 +2,12 @@
 use Rattle.std.proofs.Common.{◌⊎◌, ◌≡◌, ℕ, zero, suc, ◌+◌, ◌-◌, ◌<◌, ◌≤◌, Bool, true, false, ltb, cond, List, [], ◌∷◌, ◌++◌, length, take, drop, Result, Ok, Err, refl, sym, ap, subst, ◌∙◌, append_assoc, arith, inl, inr}
 use Rattle.std.proofs.lemmas.Bool.{ltb-true, ltb-false}
 use Rattle.std.proofs.lemmas.List.{length-append, length-take-le, take-append-drop}
-use Rattle.x86_decode.specs.declared.reading.Stop.{Stop}
-use Rattle.x86_decode.specs.declared.reading.Stop.TheVariants.{Undefined, Short}
-use Rattle.x86_decode.specs.Reading.{byte_at, chunk_at, ◌>>=◌}
+use Rattle.erim_defs.specs.declared.grammar.Stop.{Stop}
+use Rattle.erim_defs.specs.declared.grammar.Stop.TheVariants.{Undefined, Short}
+use Rattle.erim_defs.specs.Reading.{byte_at, chunk_at, ◌>>=◌}
 use Rattle.erim_defs.specs.Parts.{AreBytes, Byte, Chunk, Nothing, Never, When}
 use Rattle.x86_decode.specs.Exact.{Meets, Wants, Exact, IsFree}
-use Rattle.x86_decode.specs.Decoding.{sooner}
+use Rattle.erim_defs.specs.Decoded.{sooner}
 
 -- ---- bytes
 

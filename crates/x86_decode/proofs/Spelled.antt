@@ -1,12 +1,15 @@
 -- Whole spellings, by their parts and by their bytes.
-use Rattle.std.proofs.Common.{get_or, ◌≡◌, ℕ, suc, ◌+◌, ◌-◌, ◌<◌, ◌≤◌, ◌==◌, ◌&&◌, Bool, true, false, List, [], ◌∷◌, ◌++◌, length, take, drop, Result, Ok, Err, refl, sym, ap, subst, ◌∙◌, arith, append_assoc}
+use Rattle.std.proofs.Common.{get_or, ◌≡◌, ℕ, suc, ◌+◌, ◌-◌, ◌<◌, ◌≤◌, ◌==◌, ◌&&◌, ◌||◌, Bool, true, false, List, [], ◌∷◌, ◌++◌, length, take, drop, Option, Some, None, Result, Ok, Err, refl, sym, ap, subst, ◌∙◌, arith, inl, inr, append_assoc, ◌⊎◌}
+use Rattle.std.specs.Prelude.{IfSome}
+use Rattle.std.proofs.lemmas.Bool.{eqb-true}
 use Rattle.std.proofs.lemmas.List.{length-append, append-nil, take_at, take-append-drop, length-take-le}
+use Rattle.erim_defs.proofs.ByteLemmas.{bytes_of}
 use Rattle.erim_defs.specs.declared.grammar.Lead.{Lead}
 use Rattle.erim_defs.specs.declared.insn.Decoded.{Decoded}
 use Rattle.erim_defs.specs.declared.insn.Decoded.TheVariants as answers
 use Rattle.erim_defs.specs.declared.insn.Insn.{Insn}
-use Rattle.x86_decode.specs.declared.reading.Stop.{Stop}
-use Rattle.x86_decode.specs.declared.reading.Stop.TheVariants.{Undefined, Short}
+use Rattle.erim_defs.specs.declared.grammar.Stop.{Stop}
+use Rattle.erim_defs.specs.declared.grammar.Stop.TheVariants.{Undefined, Short}
 use Rattle.erim_defs.specs.declared.grammar.Rex.{Rex}
 use Rattle.erim_defs.specs.declared.grammar.Row.{Row}
 use Rattle.erim_defs.specs.declared.insn.Place.{Place}
@@ -14,14 +17,125 @@ use Rattle.erim_defs.specs.declared.insn.Place.TheVariants.{Reg}
 use Rattle.erim_defs.specs.Parts.{AreBytes, Byte, Chunk, Choose, When, Nothing, Never, signed}
 use Rattle.x86_decode.specs.Exact.{Exact, IsFree, Meets}
 use Rattle.erim_defs.specs.Operand.{Operand, has_sib, disp_size, place_of}
-use Rattle.erim_defs.specs.Verbs.{meaning}
 use Rattle.erim_defs.specs.Rows.{Line, has_modrm, ask_fits}
-use Rattle.erim_defs.specs.Grammar.{Written, Spells, Body, Rest, After, Opcode, Escaped, admits, fields_of, start}
-use Rattle.x86_decode.specs.Decoding.{body_at, IsWindow}
+use Rattle.erim_defs.specs.Grammar.{Meant, means, every, has, f3_bytes, rex_bytes, if_f3, if_rex, Written, Spells, Body, Rest, After, Opcode, Escaped, admits, is_prefix, is_rex, start, with_f3, with_rex}
+use Rattle.erim_defs.specs.Decoded.{front_at}
+use Rattle.x86_decode.specs.Reading.{IsWindow}
 use Rattle.erim_defs.specs.Decodes.{OneSpelling, BeginsSpelling, MeetsNone, Decodes, Again}
 use Rattle.x86_decode.proofs.Parts.{bytes_append, exact_as, free_as}
 use Rattle.x86_decode.proofs.Bodies.{at_line}
-use Rattle.x86_decode.proofs.Whole.{body_exact, body_free}
+use Rattle.x86_decode.proofs.Lines.{and_true, both_true}
+use Rattle.x86_decode.proofs.Fronts.{RexPart, F3Part, Front, front_exact, front_free, choose_case, maybe_left, maybe_right, body_leads, body_empty, or_false, rex_first, f3_first, rex_empty, f3_empty}
+
+-- ---- REX and F3
+
+rex_to : (lead : Lead) (rex : Option ℕ) (body : List ℕ) (a : Meant) → AreBytes (rex_bytes rex ++ body) → IfSome rex (λ b. is_rex b ≡ true) → Body (if_rex rex lead) body a → RexPart lead (rex_bytes rex ++ body) a
+unfolding RexPart
+rex_to lead None [] a f r h = absurd (body_empty lead a h)
+rex_to lead None (b ∷ u) a f r h = let k = body_leads lead b u a h in maybe_right is_rex (λ b. Body (with_rex lead b)) (Body lead) b u a k.0 (or_false (b == 0xF3) (is_rex b) (or_false (is_prefix b) (b == 0xF3 || is_rex b) k.1).1).1 h
+rex_to lead (Some b) body a f r h = maybe_left is_rex (λ b. Body (with_rex lead b)) (Body lead) b body a f.0 r h
+
+record RexParts (lead : Lead) (t : List ℕ) (a : Meant) : Type 0 where
+  rex : Option ℕ
+  body : List ℕ
+  parts : t ≡ rex_bytes rex ++ body
+  is : IfSome rex (λ b. is_rex b ≡ true)
+  row : Body (if_rex rex lead) body a
+
+rex_back : (lead : Lead) (t : List ℕ) (a : Meant) → RexPart lead t a → RexParts lead t a
+unfolding RexPart
+rex_back lead [] a h = absurd h
+rex_back lead (b ∷ u) a h = elim (choose_case (is_rex b) (Body (with_rex lead b)) (λ v x. Body lead (b ∷ v) x) u a h.1) [
+  | inl k ↦ record { rex = Some b; body = u; parts = refl; is = k.0; row = k.1 }
+  | inr k ↦ record { rex = None; body = b ∷ u; parts = refl; is = tt; row = k.1 }
+]
+
+f3_to : (lead : Lead) (f3 : Bool) (t : List ℕ) (a : Meant) → RexPart (if_f3 f3 lead) t a → F3Part lead (f3_bytes f3 ++ t) a
+unfolding F3Part
+f3_to lead false [] a h = absurd (rex_empty lead a h)
+f3_to lead false (b ∷ u) a h = let k = rex_first lead b u a h in maybe_right (λ b. b == 0xF3) (λ b. RexPart (with_f3 lead)) (RexPart lead) b u a k.0 k.2 h
+f3_to lead true t a h = maybe_left (λ b. b == 0xF3) (λ b. RexPart (with_f3 lead)) (RexPart lead) 0xF3 t a (omega arith) refl h
+
+record F3Parts (lead : Lead) (t : List ℕ) (a : Meant) : Type 0 where
+  f3 : Bool
+  rest : List ℕ
+  parts : t ≡ f3_bytes f3 ++ rest
+  row : RexPart (if_f3 f3 lead) rest a
+
+f3_back : (lead : Lead) (t : List ℕ) (a : Meant) → F3Part lead t a → F3Parts lead t a
+unfolding F3Part
+f3_back lead [] a h = absurd h
+f3_back lead (b ∷ u) a h = elim (choose_case (b == 0xF3) (RexPart (with_f3 lead)) (λ v x. RexPart lead (b ∷ v) x) u a h.1) [
+  | inl k ↦ record { f3 = true; rest = u; parts = ap (λ n. n ∷ u) (eqb-true b 0xF3 k.0); row = k.1 }
+  | inr k ↦ record { f3 = false; rest = b ∷ u; parts = refl; row = k.1 }
+]
+
+-- ---- prefixes
+
+or_assoc : (a b c : Bool) → (a || b || c) ≡ (a || (b || c))
+or_assoc true b c = refl
+or_assoc false b c = refl
+
+front_from : (ps : List ℕ) (n : ℕ) (l s : Bool) (t : List ℕ) (a : Meant) → AreBytes (ps ++ t) → every is_prefix ps ≡ true → F3Part (start (n + length ps) (l || has 0xF0 ps) (s || has 0x66 ps)) t a → Front n l s (ps ++ t) a
+unfolding Front
+front_from [] n l s [] a f e h = absurd (f3_empty (start (n + 0) (l || false) (s || false)) a h)
+front_from [] n l s (b ∷ u) a f e h =
+    let P : ℕ → Type 0 = λ k. F3Part (start k l s) (b ∷ u) a in
+    let h' : F3Part (start (n + 0) l s) (b ∷ u) a = or_none l s h in
+    let k = f3_first (start (n + 0) (l || false) (s || false)) b u a h in
+    let q : n + 0 ≡ n = omega arith in
+    (k.0, inr (k.1, subst P q h'))
+  where
+    or_none : (l s : Bool) → F3Part (start (n + 0) (l || false) (s || false)) (b ∷ u) a → F3Part (start (n + 0) l s) (b ∷ u) a
+    or_none true true h = h
+    or_none true false h = h
+    or_none false true h = h
+    or_none false false h = h
+front_from (b ∷ ps) n l s t a f e h =
+    let k = and_true (is_prefix b) (every is_prefix ps) e in
+    let P : ℕ → Type 0 = λ m. F3Part (start m ((l || b == 0xF0) || has 0xF0 ps) ((s || b == 0x66) || has 0x66 ps)) t a in
+    let Q : Bool → Type 0 = λ x. F3Part (start (n + length (b ∷ ps)) x (s || (b == 0x66 || has 0x66 ps))) t a in
+    let R : Bool → Type 0 = λ x. F3Part (start (n + length (b ∷ ps)) ((l || b == 0xF0) || has 0xF0 ps) x) t a in
+    let one = subst Q (sym (or_assoc l (b == 0xF0) (has 0xF0 ps))) h in
+    let two = subst R (sym (or_assoc s (b == 0x66) (has 0x66 ps))) one in
+    let q : n + length (b ∷ ps) ≡ n + 1 + length ps = omega arith in
+    (f.0, inl (k.0, front_from ps (n + 1) (l || b == 0xF0) (s || b == 0x66) t a f.1 k.1 (subst P q two)))
+
+record FrontParts (n : ℕ) (l s : Bool) (t : List ℕ) (a : Meant) : Type 0 where
+  prefixes : List ℕ
+  rest : List ℕ
+  parts : t ≡ prefixes ++ rest
+  are : every is_prefix prefixes ≡ true
+  row : F3Part (start (n + length prefixes) (l || has 0xF0 prefixes) (s || has 0x66 prefixes)) rest a
+
+front_parts : (n : ℕ) (l s : Bool) (t : List ℕ) (a : Meant) → Front n l s t a → FrontParts n l s t a
+unfolding Front
+front_parts n l s [] a h = absurd h
+front_parts n l s (b ∷ u) a h = by_prefix h.1 (front_parts (n + 1) (l || b == 0xF0) (s || b == 0x66) u a)
+  where
+    or_none : (l s : Bool) → F3Part (start (n + 0) l s) (b ∷ u) a → F3Part (start (n + 0) (l || false) (s || false)) (b ∷ u) a
+    or_none true true h = h
+    or_none true false h = h
+    or_none false true h = h
+    or_none false false h = h
+
+    by_prefix : ((is_prefix b ≡ true) × Front (n + 1) (l || b == 0xF0) (s || b == 0x66) u a) ⊎ ((is_prefix b ≡ false) × F3Part (start n l s) (b ∷ u) a) → (Front (n + 1) (l || b == 0xF0) (s || b == 0x66) u a → FrontParts (n + 1) (l || b == 0xF0) (s || b == 0x66) u a) → FrontParts n l s (b ∷ u) a
+    by_prefix (inl k) rec =
+        let r = rec k.1 in
+        let P : ℕ → Type 0 = λ m. F3Part (start m ((l || b == 0xF0) || has 0xF0 r.prefixes) ((s || b == 0x66) || has 0x66 r.prefixes)) r.rest a in
+        let Q : Bool → Type 0 = λ x. F3Part (start (n + length (b ∷ r.prefixes)) x ((s || b == 0x66) || has 0x66 r.prefixes)) r.rest a in
+        let R : Bool → Type 0 = λ x. F3Part (start (n + length (b ∷ r.prefixes)) (l || (b == 0xF0 || has 0xF0 r.prefixes)) x) r.rest a in
+        let q : n + 1 + length r.prefixes ≡ n + length (b ∷ r.prefixes) = omega arith in
+        let one = subst P q r.row in
+        let two = subst Q (or_assoc l (b == 0xF0) (has 0xF0 r.prefixes)) one in
+        let three = subst R (or_assoc s (b == 0x66) (has 0x66 r.prefixes)) two in
+        record { prefixes = b ∷ r.prefixes; rest = r.rest; parts = ap (λ (x : List ℕ). b ∷ x) r.parts; are = both_true (is_prefix b) (every is_prefix r.prefixes) k.0 r.are; row = three }
+    by_prefix (inr k) rec =
+        let P : ℕ → Type 0 = λ m. F3Part (start m l s) (b ∷ u) a in
+        let q : n ≡ n + 0 = omega arith in
+        record { prefixes = []; rest = b ∷ u; parts = refl; are = refl; row = or_none l s (subst P q k.1) }
+
+-- ---- the whole
 
 -- all texts of a part are bytes
 record OfBytes {A : Type 0} (R : List ℕ → A → Type 0) : Type 0 where
@@ -47,57 +161,109 @@ nothing_bytes v = record { are = λ t a h. let P : List ℕ → Type 0 = AreByte
 never_bytes : {A : Type 0} → OfBytes {A = A} Never
 never_bytes = record { are = λ t a h. absurd h }
 
-rest_bytes : (lead : Lead) (op m : ℕ) (row : Row) (place : Place) → OfBytes (Rest lead op m row place)
-rest_bytes lead op m row place = chunk_bytes row.imm (λ imm. Nothing (meaning row.verb (fields_of lead op m place) imm, lead.skip)) (λ imm. nothing_bytes (meaning row.verb (fields_of lead op m place) imm, lead.skip))
+rest_bytes : (lead : Lead) (op m : ℕ) (row : Row) (place : Place × ℕ) → OfBytes (Rest lead op m row place)
+rest_bytes lead op m row place = chunk_bytes row.imm (λ imm. Nothing (means lead op m row place imm)) (λ imm. nothing_bytes (means lead op m row place imm))
 
-operand_bytes : (rex : Rex) (m : ℕ) (S : Place → List ℕ → Insn × ℕ → Type 0) → ((p : Place) → OfBytes (S p)) → OfBytes (Operand rex m S)
+operand_bytes : (rex : Rex) (m : ℕ) (S : Place × ℕ → List ℕ → Meant → Type 0) → ((p : Place × ℕ) → OfBytes (S p)) → OfBytes (Operand rex m S)
 operand_bytes rex m S each = choose_bytes (has_sib m) (Byte behind) (behind 0) (byte_bytes behind behind_bytes) (behind_bytes 0)
   where
-    behind : ℕ → List ℕ → Insn × ℕ → Type 0
-    behind sib = Chunk (disp_size m sib) (λ disp. S (place_of rex m sib (signed disp)))
+    behind : ℕ → List ℕ → Meant → Type 0
+    behind sib = Chunk (disp_size m sib) (λ disp. S (place_of rex m sib (signed disp), disp_size m sib))
 
     behind_bytes : (sib : ℕ) → OfBytes (behind sib)
-    behind_bytes sib = chunk_bytes (disp_size m sib) (λ disp. S (place_of rex m sib (signed disp))) (λ disp. each (place_of rex m sib (signed disp)))
+    behind_bytes sib = chunk_bytes (disp_size m sib) (λ disp. S (place_of rex m sib (signed disp), disp_size m sib)) (λ disp. each (place_of rex m sib (signed disp), disp_size m sib))
 
 after_bytes : (line : Line) (lead : Lead) (op : ℕ) → OfBytes (After line lead op)
 after_bytes line lead op =
-    choose_bytes (has_modrm line.ask) (Byte (λ m. When (ask_fits line.ask m && admits lead line.row m) (Operand lead.rex m (λ place. Rest lead op m line.row place)))) (When (admits lead line.row 0) (Rest lead op 0 line.row (Reg 0)))
+    choose_bytes (has_modrm line.ask) (Byte (λ m. When (ask_fits line.ask m && admits lead line.row m) (Operand lead.rex m (λ place. Rest lead op m line.row place)))) (When (admits lead line.row 0) (Rest lead op 0 line.row (Reg 0, 0)))
     (byte_bytes (λ m. When (ask_fits line.ask m && admits lead line.row m) (Operand lead.rex m (λ place. Rest lead op m line.row place)))
     (λ m. choose_bytes (ask_fits line.ask m && admits lead line.row m) (Operand lead.rex m (λ place. Rest lead op m line.row place)) Never (operand_bytes lead.rex m (λ place. Rest lead op m line.row place) (λ place. rest_bytes lead op m line.row place)) never_bytes))
-    (choose_bytes (admits lead line.row 0) (Rest lead op 0 line.row (Reg 0)) Never (rest_bytes lead op 0 line.row (Reg 0)) never_bytes)
+    (choose_bytes (admits lead line.row 0) (Rest lead op 0 line.row (Reg 0, 0)) Never (rest_bytes lead op 0 line.row (Reg 0, 0)) never_bytes)
 
 opcode_bytes : (line : Line) (lead : Lead) → OfBytes (Opcode line lead)
 opcode_bytes line lead = byte_bytes (λ op. When (at_line line lead op) (After line lead op)) (λ op. choose_bytes (at_line line lead op) (After line lead op) Never (after_bytes line lead op) never_bytes)
 
-body_bytes : (lead : Lead) (t : List ℕ) (a : Insn × ℕ) → Body lead t a → AreBytes t
+body_bytes : (lead : Lead) (t : List ℕ) (a : Meant) → Body lead t a → AreBytes t
 body_bytes lead t a h = (escaped h.0.escape h.0).are t a h.2
   where
     escaped : (e : Bool) (line : Line) → OfBytes (Escaped e (Opcode line lead))
     escaped true line = byte_bytes (λ b. When (b == 0x0F) (Opcode line lead)) (λ b. choose_bytes (b == 0x0F) (Opcode line lead) Never (opcode_bytes line lead) never_bytes)
     escaped false line = opcode_bytes line lead
 
-written_to : (t : List ℕ) (a : Insn × ℕ) → Written t a → Body (start 0 false false) t a
-written_to t a w = w.line
+rex_part_bytes : (lead : Lead) (t : List ℕ) (a : Meant) → RexPart lead t a → AreBytes t
+unfolding RexPart
+rex_part_bytes lead [] a h = tt
+rex_part_bytes lead (b ∷ u) a h = elim (choose_case (is_rex b) (Body (with_rex lead b)) (λ v x. Body lead (b ∷ v) x) u a h.1) [
+  | inl k ↦ (h.0, body_bytes (with_rex lead b) u a k.1)
+  | inr k ↦ body_bytes lead (b ∷ u) a k.1
+]
 
-written_back : (t : List ℕ) (a : Insn × ℕ) → Body (start 0 false false) t a → Written t a
-written_back t a h = record { fits = body_bytes (start 0 false false) t a h; line = h }
+f3_part_bytes : (lead : Lead) (t : List ℕ) (a : Meant) → F3Part lead t a → AreBytes t
+unfolding F3Part
+f3_part_bytes lead [] a h = tt
+f3_part_bytes lead (b ∷ u) a h = elim (choose_case (b == 0xF3) (RexPart (with_f3 lead)) (λ v x. RexPart lead (b ∷ v) x) u a h.1) [
+  | inl k ↦ (h.0, rex_part_bytes (with_f3 lead) u a k.1)
+  | inr k ↦ rex_part_bytes lead (b ∷ u) a k.1
+]
 
-pub written_exact : (bytes : List ℕ) → AreBytes bytes → Exact Written bytes (body_at (start 0 false false) bytes)
-written_exact bytes h = exact_as (Body (start 0 false false)) Written written_back written_to bytes (body_at (start 0 false false) bytes) (body_exact (start 0 false false) bytes h)
+front_bytes : (n : ℕ) (l s : Bool) (t : List ℕ) (a : Meant) → Front n l s t a → AreBytes t
+unfolding Front
+front_bytes n l s [] a h = tt
+front_bytes n l s (b ∷ u) a h = elim h.1 [
+  | inl k ↦ (h.0, front_bytes (n + 1) (l || b == 0xF0) (s || b == 0x66) u a k.1)
+  | inr k ↦ f3_part_bytes (start n l s) (b ∷ u) a k.1
+]
+
+written_to : (t : List ℕ) (a : Meant) → Written t a → Front 0 false false t a
+written_to t a w =
+    let P : List ℕ → Type 0 = λ x. Front 0 false false x a in
+    let B : List ℕ → Type 0 = AreBytes in
+    let all = subst B w.parts w.fits in
+    let rex = rex_to (if_f3 w.f3 (start (length w.prefixes) (has 0xF0 w.prefixes) (has 0x66 w.prefixes))) w.rex w.body a (bytes_back (f3_bytes w.f3) (rex_bytes w.rex ++ w.body) (bytes_back w.prefixes (f3_bytes w.f3 ++ (rex_bytes w.rex ++ w.body)) all)) w.are_rex w.line in
+    let f3 = f3_to (start (length w.prefixes) (has 0xF0 w.prefixes) (has 0x66 w.prefixes)) w.f3 (rex_bytes w.rex ++ w.body) a rex in
+    let Q : ℕ → Type 0 = λ m. F3Part (start m (has 0xF0 w.prefixes) (has 0x66 w.prefixes)) (f3_bytes w.f3 ++ (rex_bytes w.rex ++ w.body)) a in
+    let q : length w.prefixes ≡ 0 + length w.prefixes = omega arith in
+    subst P (sym w.parts) (front_from w.prefixes 0 false false (f3_bytes w.f3 ++ (rex_bytes w.rex ++ w.body)) a all w.are_prefixes (subst Q q f3))
+  where
+    bytes_back : (s t : List ℕ) → AreBytes (s ++ t) → AreBytes t
+    bytes_back [] t h = h
+    bytes_back (b ∷ s) t h = bytes_back s t h.1
+
+written_back : (t : List ℕ) (a : Meant) → Front 0 false false t a → Written t a
+written_back t a h =
+    let p = front_parts 0 false false t a h in
+    let Q : ℕ → Type 0 = λ m. F3Part (start m (has 0xF0 p.prefixes) (has 0x66 p.prefixes)) p.rest a in
+    let q : 0 + length p.prefixes ≡ length p.prefixes = omega arith in
+    let f = f3_back (start (length p.prefixes) (has 0xF0 p.prefixes) (has 0x66 p.prefixes)) p.rest a (subst Q q p.row) in
+    let r = rex_back (if_f3 f.f3 (start (length p.prefixes) (has 0xF0 p.prefixes) (has 0x66 p.prefixes))) f.rest a f.row in
+    record {
+      prefixes = p.prefixes;
+      f3 = f.f3;
+      rex = r.rex;
+      body = r.body;
+      parts = p.parts ∙ ap (λ (x : List ℕ). p.prefixes ++ x) (f.parts ∙ ap (λ (x : List ℕ). f3_bytes f.f3 ++ x) r.parts);
+      fits = front_bytes 0 false false t a h;
+      are_prefixes = p.are;
+      are_rex = r.is;
+      line = r.row;
+    }
+
+pub written_exact : (bytes : List ℕ) → AreBytes bytes → Exact Written bytes (front_at 0 false false bytes)
+written_exact bytes h = exact_as (Front 0 false false) Written written_back written_to bytes (front_at 0 false false bytes) (front_exact 0 false false bytes h)
 
 pub written_free : IsFree Written
-written_free = free_as (Body (start 0 false false)) Written written_to (body_free (start 0 false false))
+written_free = free_as (Front 0 false false) Written written_to (front_free 0 false false)
 
 pub one_spelling : OneSpelling
 one_spelling s t i j m n x y p q e =
-    let k = written_free.one s t (i, m) (j, n) x y p.written q.written e in
-    (k.0, ap (λ (z : Insn × ℕ). z.0) k.1, ap (λ (z : Insn × ℕ). z.1) k.1)
+    let k = written_free.one s t (i, m, p.disp, p.imm) (j, n, q.disp, q.imm) x y p.written q.written e in
+    (k.0, ap (λ (z : Meant). z.0) k.1, ap (λ (z : Meant). z.1) k.1)
 
 -- ---- at most 15 bytes
 
-pub found_ok : (bytes window rest : List ℕ) (insn : Insn) (skip : ℕ) → IsWindow bytes window → AreBytes window → body_at (start 0 false false) window ≡ Ok ((insn, skip), rest) → (length rest ≤ length window) × (length window - length rest ≤ length bytes) × Spells (take (length window - length rest) bytes) insn skip
-found_ok bytes window rest insn skip w fits e =
-    let P : Result ((Insn × ℕ) × List ℕ) Stop → Type 0 = Exact Written window in
+pub found_ok : (bytes window rest : List ℕ) (a : Meant) → IsWindow bytes window → AreBytes window → front_at 0 false false window ≡ Ok (a, rest) → (length rest ≤ length window) × (length window - length rest ≤ length bytes) × Spells (take (length window - length rest) bytes) a.0 a.1
+found_ok bytes window rest a w fits e =
+    let P : Result (Meant × List ℕ) Stop → Type 0 = Exact Written window in
     let b = subst P e (written_exact window fits) in
     let size : length window ≡ length b.text + length rest = ap length b.parts ∙ length-append b.text rest in
     let long = w.long in
@@ -105,41 +271,37 @@ found_ok bytes window rest insn skip w fits e =
     let front : bytes ≡ b.text ++ (rest ++ w.more) = w.parts ∙ ap (λ (x : List ℕ). x ++ w.more) b.parts ∙ append_assoc b.text rest w.more in
     let len : length b.text ≡ length window - length rest = omega arith in
     let is : take (length window - length rest) bytes ≡ b.text = ap (take (length window - length rest)) front ∙ take_at b.text (rest ++ w.more) (length window - length rest) len in
-    let Q : List ℕ → Type 0 = λ t. Spells t insn skip in
-    (omega arith, omega arith, subst Q (sym is) (record { written = b.spelled; long = omega arith }))
+    let Q : List ℕ → Type 0 = λ t. Spells t a.0 a.1 in
+    (omega arith, omega arith, subst Q (sym is) (record { disp = a.2; imm = a.3; written = b.spelled; long = omega arith }))
 
-pub found_short : (bytes window : List ℕ) (n : ℕ) → IsWindow bytes window → AreBytes window → body_at (start 0 false false) window ≡ Err (Short n) → length window + n ≤ 15 → BeginsSpelling bytes
+pub found_short : (bytes window : List ℕ) (n : ℕ) → IsWindow bytes window → AreBytes window → front_at 0 false false window ≡ Err (Short n) → length window + n ≤ 15 → BeginsSpelling bytes
 found_short bytes window n w fits e le =
-    let P : Result ((Insn × ℕ) × List ℕ) Stop → Type 0 = Exact Written window in
+    let P : Result (Meant × List ℕ) Stop → Type 0 = Exact Written window in
     let h = subst P e (written_exact window fits) in
     let more = h.more in
     let is : bytes ≡ window = w.parts ∙ ap (λ (x : List ℕ). window ++ x) (w.all (omega arith)) ∙ append-nil window in
     let Q : List ℕ → Type 0 = λ t. Written (t ++ h.tail) h.value in
     let size : length (bytes ++ h.tail) ≡ length window + n = length-append bytes h.tail ∙ ap (λ (x : List ℕ). length x + length h.tail) is ∙ ap (λ k. length window + k) h.long in
     let long = h.long in
-    record { tail = h.tail; insn = h.value.0; skip = h.value.1; spells = record { written = subst Q (sym is) h.spelled; long = omega arith }; more = omega arith }
+    record { tail = h.tail; insn = h.value.0; skip = h.value.1; spells = record { disp = h.value.2; imm = h.value.3; written = subst Q (sym is) h.spelled; long = omega arith }; more = omega arith }
 
-window_meets : (bytes window text x y : List ℕ) (insn : Insn) (skip : ℕ) → IsWindow bytes window → Spells text insn skip → bytes ++ x ≡ text ++ y → Meets Written window text (insn, skip)
+window_meets : (bytes window text x y : List ℕ) (insn : Insn) (skip : ℕ) → IsWindow bytes window → (s : Spells text insn skip) → bytes ++ x ≡ text ++ y → Meets Written window text (insn, skip, s.disp, s.imm)
 window_meets bytes window text x y insn skip w s e =
     record { spelled = s.written; after = w.more ++ x; rest = y; same = sym (append_assoc window w.more x) ∙ ap (λ (z : List ℕ). z ++ x) (sym w.parts) ∙ e }
 
-pub found_long : (bytes window : List ℕ) (n : ℕ) → IsWindow bytes window → AreBytes window → body_at (start 0 false false) window ≡ Err (Short n) → 15 < length window + n → MeetsNone bytes
+pub found_long : (bytes window : List ℕ) (n : ℕ) → IsWindow bytes window → AreBytes window → front_at 0 false false window ≡ Err (Short n) → 15 < length window + n → MeetsNone bytes
 found_long bytes window n w fits e lt = λ text insn skip x y s same.
-    let P : Result ((Insn × ℕ) × List ℕ) Stop → Type 0 = Exact Written window in
+    let P : Result (Meant × List ℕ) Stop → Type 0 = Exact Written window in
     let h = subst P e (written_exact window fits) in
-    let k = h.least text (insn, skip) (window_meets bytes window text x y insn skip w s same) in
+    let k = h.least text (insn, skip, s.disp, s.imm) (window_meets bytes window text x y insn skip w s same) in
     let long = s.long in
     absurd (omega arith)
 
-pub found_none : (bytes window : List ℕ) → IsWindow bytes window → AreBytes window → body_at (start 0 false false) window ≡ Err Undefined → MeetsNone bytes
+pub found_none : (bytes window : List ℕ) → IsWindow bytes window → AreBytes window → front_at 0 false false window ≡ Err Undefined → MeetsNone bytes
 found_none bytes window w fits e = λ text insn skip x y s same.
-    let P : Result ((Insn × ℕ) × List ℕ) Stop → Type 0 = Exact Written window in
+    let P : Result (Meant × List ℕ) Stop → Type 0 = Exact Written window in
     let h = subst P e (written_exact window fits) in
-    h text (insn, skip) (window_meets bytes window text x y insn skip w s same)
-
-pub bytes_of : (s : List ℕ) → ((i : ℕ) → get_or s i 0 < 256) → AreBytes s
-bytes_of [] h = tt
-bytes_of (b ∷ s) h = (h 0, bytes_of s (λ i. h (suc i)))
+    h text (insn, skip, s.disp, s.imm) (window_meets bytes window text x y insn skip w s same)
 
 pub window_bytes : (bytes window : List ℕ) → IsWindow bytes window → ((i : ℕ) → get_or bytes i 0 < 256) → AreBytes window
 window_bytes bytes window w h = let P : List ℕ → Type 0 = AreBytes in front window w.more (subst P w.parts (bytes_of bytes h))

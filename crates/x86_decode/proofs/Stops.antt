@@ -1,17 +1,16 @@
 -- The shortest spelling of each line, and of all lines.
-use Rattle.std.proofs.Common.{◌⊎◌, ◌≡◌, ℕ, ◌+◌, ◌<◌, ◌≤◌, ◌==◌, ◌&&◌, ◌||◌, not, nat_lt, Bool, true, false, List, [], ◌∷◌, length, refl, sym, ap, subst, ◌∙◌, arith, inl, inr, if◌then◌else◌}
+use Rattle.std.proofs.Common.{◌⊎◌, ◌≡◌, ℕ, ◌+◌, ◌*◌, ◌<◌, ◌≤◌, ◌==◌, ◌&&◌, ◌||◌, not, nat_lt, Bool, true, false, List, [], ◌∷◌, length, refl, sym, ap, subst, ◌∙◌, arith, inl, inr, if◌then◌else◌}
 use Rattle.std.proofs.lemmas.Bool.{ltb-true}
-use Rattle.x86_decode.specs.declared.reading.Stop.{Stop}
-use Rattle.x86_decode.specs.declared.reading.Stop.TheVariants.{Undefined, Short}
+use Rattle.erim_defs.specs.declared.grammar.Stop.{Stop}
+use Rattle.erim_defs.specs.declared.grammar.Stop.TheVariants.{Undefined, Short}
 use Rattle.erim_defs.specs.declared.grammar.Lead.{Lead}
 use Rattle.erim_defs.specs.declared.grammar.Row.{Row}
-use Rattle.erim_defs.specs.declared.insn.Insn.{Insn}
 use Rattle.erim_defs.specs.declared.insn.Place.TheVariants.{Reg}
 use Rattle.erim_defs.specs.Parts.{Byte, Choose, When}
-use Rattle.erim_defs.specs.Rows.{Line, Ask, NoModRM, Registers, Exactly, lines, in_line, has_modrm, ask_fits, same_bool, w_fits}
+use Rattle.erim_defs.specs.Rows.{Line, Ask, NoModRM, Any, AnyMemory, Ext, Memory, Exactly, lines, in_line, has_modrm, ask_fits, same_bool, w_fits}
 use Rattle.x86_decode.proofs.Lines.{every, and_true, both_true}
-use Rattle.erim_defs.specs.Grammar.{In, Rest, After, Opcode, Escaped, Body, admits}
-use Rattle.x86_decode.specs.Decoding.{sooner, least_body, least_second}
+use Rattle.erim_defs.specs.Grammar.{Meant, In, Rest, After, Opcode, Escaped, Body, admits}
+use Rattle.erim_defs.specs.Decoded.{sooner, least_body, least_second}
 use Rattle.erim_defs.specs.Operand.{Operand}
 use Rattle.x86_decode.proofs.Parts.{Sized, Ends, union_ends, ends_as, sized_is, byte_sized, when_to}
 use Rattle.x86_decode.proofs.Operands.{operand_size, operand_sized}
@@ -22,7 +21,10 @@ use Rattle.x86_decode.proofs.Bodies.{at_line, Opcoded}
 -- a byte that fits, with neither SIB nor displacement, and memory where that is asked for
 abbrev pub sample : Ask → ℕ
 sample NoModRM = 0
-sample Registers = 192
+sample Any = 0
+sample AnyMemory = 0
+sample (Ext r) = 8 * r
+sample (Memory r) = 8 * r
 sample (Exactly m) = m
 
 abbrev pub sound : Line → Bool
@@ -79,7 +81,10 @@ when_sized false R n e h = absurd cc
 
 plain_sample : (ask : Ask) → has_modrm ask ≡ false → sample ask ≡ 0
 plain_sample NoModRM e = refl
-plain_sample Registers e = absurd cc
+plain_sample Any e = absurd cc
+plain_sample AnyMemory e = absurd cc
+plain_sample (Ext r) e = absurd cc
+plain_sample (Memory r) e = absurd cc
 plain_sample (Exactly r) e = absurd cc
 
 abbrev tail_size : Line → ℕ
@@ -88,16 +93,16 @@ tail_size line = if has_modrm line.ask then 1 + line.row.imm else line.row.imm
 after_sized : (line : Line) (lead : Lead) (op : ℕ) → Sound line → admits lead line.row (sample line.ask) ≡ true → Sized (After line lead op) (tail_size line)
 after_sized line lead op s a = by_modrm (has_modrm line.ask) refl
   where
-    Modrm : ℕ → List ℕ → Insn × ℕ → Type 0
+    Modrm : ℕ → List ℕ → Meant → Type 0
     Modrm m = When (ask_fits line.ask m && admits lead line.row m) (OfModrm lead op m line.row)
 
-    Plain : List ℕ → Insn × ℕ → Type 0
+    Plain : List ℕ → Meant → Type 0
     Plain = When (admits lead line.row 0) (OfPlain lead op line.row)
 
     operand : (m : ℕ) → Sized (OfModrm lead op m line.row) (operand_size m + line.row.imm)
     operand m = operand_sized lead.rex m (λ place. Rest lead op m line.row place) line.row.imm (λ place. rest_sized lead op m line.row place)
 
-    low : (m : ℕ) (u : List ℕ) (x : Insn × ℕ) → m < 256 → Modrm m u x → line.row.imm ≤ length u
+    low : (m : ℕ) (u : List ℕ) (x : Meant) → m < 256 → Modrm m u x → line.row.imm ≤ length u
     low m u x lt h = let w = when_to (ask_fits line.ask m && admits lead line.row m) (OfModrm lead op m line.row) u x h in let k : operand_size m + line.row.imm ≤ length u = (operand m).low u x w.1 in omega arith
 
     by_modrm : (b : Bool) → has_modrm line.ask ≡ b → Sized (Choose b (Byte Modrm) Plain) (if b then 1 + line.row.imm else line.row.imm)
@@ -108,16 +113,16 @@ after_sized line lead op s a = by_modrm (has_modrm line.ask) refl
         (both_true (ask_fits line.ask (sample line.ask)) (admits lead line.row (sample line.ask)) s.asked a)
         (sized_is (OfModrm lead op (sample line.ask) line.row) (operand_size (sample line.ask) + line.row.imm) line.row.imm (omega arith) (operand (sample line.ask))))
         low
-    by_modrm false e = when_sized (admits lead line.row 0) (OfPlain lead op line.row) line.row.imm (ap (λ m. admits lead line.row m) (sym (plain_sample line.ask e)) ∙ a) (rest_sized lead op 0 line.row (Reg 0))
+    by_modrm false e = when_sized (admits lead line.row 0) (OfPlain lead op line.row) line.row.imm (ap (λ m. admits lead line.row m) (sym (plain_sample line.ask e)) ∙ a) (rest_sized lead op 0 line.row (Reg 0, 0))
 
 -- some byte is admitted where there is a text
-after_admits : (line : Line) (lead : Lead) (op : ℕ) (t : List ℕ) (x : Insn × ℕ) → Sound line → After line lead op t x → admits lead line.row (sample line.ask) ≡ true
+after_admits : (line : Line) (lead : Lead) (op : ℕ) (t : List ℕ) (x : Meant) → Sound line → After line lead op t x → admits lead line.row (sample line.ask) ≡ true
 after_admits line lead op t x s h = by_modrm (has_modrm line.ask) refl t h
   where
-    Modrm : ℕ → List ℕ → Insn × ℕ → Type 0
+    Modrm : ℕ → List ℕ → Meant → Type 0
     Modrm m = When (ask_fits line.ask m && admits lead line.row m) (OfModrm lead op m line.row)
 
-    Plain : List ℕ → Insn × ℕ → Type 0
+    Plain : List ℕ → Meant → Type 0
     Plain = When (admits lead line.row 0) (OfPlain lead op line.row)
 
     by_modrm : (b : Bool) → has_modrm line.ask ≡ b → (u : List ℕ) → Choose b (Byte Modrm) Plain u x → admits lead line.row (sample line.ask) ≡ true
@@ -135,18 +140,18 @@ opcode_ends : (line : Line) (lead : Lead) → Sound line → Ends (Opcode line l
 unfolding opcode_stop
 opcode_ends line lead s = by_test (line_fits line lead.f3 lead.rex.w && admits lead line.row (sample line.ask)) refl
   where
-    S : ℕ → List ℕ → Insn × ℕ → Type 0
+    S : ℕ → List ℕ → Meant → Type 0
     S op = When (at_line line lead op) (After line lead op)
 
-    here : (op : ℕ) (u : List ℕ) (x : Insn × ℕ) → S op u x → (line_fits line lead.f3 lead.rex.w && admits lead line.row (sample line.ask)) ≡ true
+    here : (op : ℕ) (u : List ℕ) (x : Meant) → S op u x → (line_fits line lead.f3 lead.rex.w && admits lead line.row (sample line.ask)) ≡ true
     here op u x h =
         let w = when_to (at_line line lead op) (After line lead op) u x h in
         both_true (line_fits line lead.f3 lead.rex.w) (admits lead line.row (sample line.ask)) (and_true (in_line line line.escape op) (line_fits line lead.f3 lead.rex.w) w.0).1 (after_admits line lead op u x s w.1)
 
-    low : admits lead line.row (sample line.ask) ≡ true → (op : ℕ) (u : List ℕ) (x : Insn × ℕ) → op < 256 → S op u x → tail_size line ≤ length u
+    low : admits lead line.row (sample line.ask) ≡ true → (op : ℕ) (u : List ℕ) (x : Meant) → op < 256 → S op u x → tail_size line ≤ length u
     low a op u x lt h = (after_sized line lead op s a).low u x (when_to (at_line line lead op) (After line lead op) u x h).1
 
-    none : (line_fits line lead.f3 lead.rex.w && admits lead line.row (sample line.ask)) ≡ false → (t : List ℕ) (x : Insn × ℕ) → Byte S t x → ⊥
+    none : (line_fits line lead.f3 lead.rex.w && admits lead line.row (sample line.ask)) ≡ false → (t : List ℕ) (x : Meant) → Byte S t x → ⊥
     none e [] x h = h
     none e (op ∷ u) x h = let k = here op u x h.1 in absurd cc
 
@@ -166,10 +171,10 @@ abbrev pub stops : (Line → Stop) → List Line → Stop
 stops f [] = Undefined
 stops f (line ∷ ls) = sooner (f line) (stops f ls)
 
-Some-line : (Line → List ℕ → Insn × ℕ → Type 0) → List Line → List ℕ → Insn × ℕ → Type 0
+Some-line : (Line → List ℕ → Meant → Type 0) → List Line → List ℕ → Meant → Type 0
 Some-line G ls t a = (line : Line) × In ls line × G line t a
 
-stops_ends : (G : Line → List ℕ → Insn × ℕ → Type 0) (f : Line → Stop) → ((line : Line) → Sound line → Ends (G line) (f line)) → (ls : List Line) → every sound ls ≡ true → Ends (Some-line G ls) (stops f ls)
+stops_ends : (G : Line → List ℕ → Meant → Type 0) (f : Line → Stop) → ((line : Line) → Sound line → Ends (G line) (f line)) → (ls : List Line) → every sound ls ≡ true → Ends (Some-line G ls) (stops f ls)
 unfolding Some-line
 stops_ends G f each [] e = λ t a h. h.1
 stops_ends G f each (line ∷ ls) e =
@@ -182,7 +187,7 @@ stops_ends G f each (line ∷ ls) e =
     })
     (each line (sound_is line k.0)) (stops_ends G f each ls k.1)
   where
-    by_place : (t : List ℕ) (a : Insn × ℕ) (l : Line) → G l t a → (line ≡ l) ⊎ In ls l → (G line t a) ⊎ ((x : Line) × In ls x × G x t a)
+    by_place : (t : List ℕ) (a : Meant) (l : Line) → G l t a → (line ≡ l) ⊎ In ls l → (G line t a) ⊎ ((x : Line) × In ls x × G x t a)
     by_place t a l g (inl e) = let P : Line → Type 0 = λ x. G x t a in inl (subst P (sym e) g)
     by_place t a l g (inr i) = inr (l, i, g)
 
@@ -206,12 +211,12 @@ two_line_ends lead line s = by_escape line.escape refl
     by_escape true e = ends_as (Opcode line lead) (λ t a. (line.escape ≡ true) × Opcode line lead t a) (opcode_stop lead line) (λ t a h. (e, h)) (λ t a h. h.1) (opcode_ends line lead s)
     by_escape false e = λ t a h. let k = h.0 in absurd cc
 
-escaped_ends : (R : List ℕ → Insn × ℕ → Type 0) (stop : Stop) → Ends R stop → Ends (Byte (λ b. When (b == 0x0F) R)) (escaped_stop stop)
+escaped_ends : (R : List ℕ → Meant → Type 0) (stop : Stop) → Ends R stop → Ends (Byte (λ b. When (b == 0x0F) R)) (escaped_stop stop)
 unfolding escaped_stop
 escaped_ends R (Short n) h = (omega arith, byte_sized (λ b. When (b == 0x0F) R) n 0x0F (omega arith) h.1 (λ c u x lt w. h.1.low u x (when_to (c == 0x0F) R u x w).1))
 escaped_ends R Undefined h = none
   where
-    none : (t : List ℕ) (x : Insn × ℕ) → Byte (λ b. When (b == 0x0F) R) t x → ⊥
+    none : (t : List ℕ) (x : Meant) → Byte (λ b. When (b == 0x0F) R) t x → ⊥
     none [] x p = p
     none (b ∷ u) x p = h u x (when_to (b == 0x0F) R u x p.1).1
 

@@ -3,58 +3,56 @@ use Rattle.std.proofs.Common.{◌⊎◌, ◌≡◌, ℕ, zero, suc, ◌+◌, ◌
 use Rattle.std.proofs.lemmas.Bool.{cases_lt}
 use Rattle.erim_defs.specs.declared.grammar.Lead.{Lead}
 use Rattle.erim_defs.specs.declared.grammar.Row.{Row}
-use Rattle.erim_defs.specs.declared.insn.Insn.{Insn}
 use Rattle.erim_defs.specs.declared.insn.Place.{Place}
 use Rattle.erim_defs.specs.declared.insn.Place.TheVariants.{Reg}
-use Rattle.x86_decode.specs.Reading.{byte_at, chunk_at, ◌>>=◌}
+use Rattle.erim_defs.specs.Reading.{byte_at, chunk_at, ◌>>=◌}
 use Rattle.erim_defs.specs.Parts.{AreBytes, Byte, Choose, Nothing, Never}
 use Rattle.x86_decode.specs.Exact.{Exact, IsFree}
 use Rattle.erim_defs.specs.Operand.{has_sib, disp_size, Operand}
-use Rattle.erim_defs.specs.Verbs.{meaning}
-use Rattle.erim_defs.specs.Grammar.{Rest, fields_of}
-use Rattle.x86_decode.specs.Decoding.{operand_len, stop_of, least_modrm, modrm_stop, found_plain, found_modrm, row_at, asks_at, modrm_at, tail_at}
+use Rattle.erim_defs.specs.Grammar.{Meant, means, Rest}
+use Rattle.erim_defs.specs.Decoded.{operand_len, stop_of, least_modrm, modrm_stop, found_plain, found_modrm, row_at, asks_at, modrm_at, tail_at}
 use Rattle.x86_decode.proofs.Parts.{Sized, Ends, IsUnion, union_ends, ends_as, sized_is, nothing_exact, nothing_free, nothing_sized, never_exact, never_free, byte_exact, byte_free, chunk_exact, chunk_free, chunk_sized}
 use Rattle.x86_decode.proofs.Operands.{operand_size, operand_exact, operand_free, operand_sized}
 
-pub rest_sized : (lead : Lead) (op m : ℕ) (row : Row) (place : Place) → Sized (Rest lead op m row place) row.imm
+pub rest_sized : (lead : Lead) (op m : ℕ) (row : Row) (place : Place × ℕ) → Sized (Rest lead op m row place) row.imm
 rest_sized lead op m row place =
     sized_is (Rest lead op m row place) (row.imm + 0) row.imm (omega arith)
-    (chunk_sized row.imm (λ imm. Nothing (meaning row.verb (fields_of lead op m place) imm, lead.skip)) 0 (λ front _ _. nothing_sized (meaning row.verb (fields_of lead op m place) front, lead.skip)))
+    (chunk_sized row.imm (λ imm. Nothing (means lead op m row place imm)) 0 (λ front _ _. nothing_sized (means lead op m row place front)))
 
-pub rest_exact : (lead : Lead) (op m : ℕ) (row : Row) (place : Place) (bytes : List ℕ) → AreBytes bytes → Exact (Rest lead op m row place) bytes (chunk_at row.imm 0 bytes >>= λ i. Ok ((meaning row.verb (fields_of lead op m place) i.0, lead.skip), i.1))
+pub rest_exact : (lead : Lead) (op m : ℕ) (row : Row) (place : Place × ℕ) (bytes : List ℕ) → AreBytes bytes → Exact (Rest lead op m row place) bytes (chunk_at row.imm 0 bytes >>= λ i. Ok (means lead op m row place i.0, i.1))
 rest_exact lead op m row place bytes h =
-    chunk_exact row.imm (λ imm. Nothing (meaning row.verb (fields_of lead op m place) imm, lead.skip)) (λ i. Ok ((meaning row.verb (fields_of lead op m place) i.0, lead.skip), i.1)) 0
-    (λ front _ _. nothing_sized (meaning row.verb (fields_of lead op m place) front, lead.skip))
-    (λ front rest _ _ _. nothing_exact (meaning row.verb (fields_of lead op m place) front, lead.skip) rest) bytes h
+    chunk_exact row.imm (λ imm. Nothing (means lead op m row place imm)) (λ i. Ok (means lead op m row place i.0, i.1)) 0
+    (λ front _ _. nothing_sized (means lead op m row place front))
+    (λ front rest _ _ _. nothing_exact (means lead op m row place front) rest) bytes h
 
-pub rest_free : (lead : Lead) (op m : ℕ) (row : Row) (place : Place) → IsFree (Rest lead op m row place)
-rest_free lead op m row place = chunk_free row.imm (λ imm. Nothing (meaning row.verb (fields_of lead op m place) imm, lead.skip)) (λ front _ _. nothing_free (meaning row.verb (fields_of lead op m place) front, lead.skip))
+pub rest_free : (lead : Lead) (op m : ℕ) (row : Row) (place : Place × ℕ) → IsFree (Rest lead op m row place)
+rest_free lead op m row place = chunk_free row.imm (λ imm. Nothing (means lead op m row place imm)) (λ front _ _. nothing_free (means lead op m row place front))
 
 -- behind the row that was found
-abbrev pub Found : (Row → List ℕ → Insn × ℕ → Type 0) → Option Row → List ℕ → Insn × ℕ → Type 0
+abbrev pub Found : (Row → List ℕ → Meant → Type 0) → Option Row → List ℕ → Meant → Type 0
 Found F None = Never
 Found F (Some row) = F row
 
-abbrev pub OfPlain : Lead → ℕ → Row → List ℕ → Insn × ℕ → Type 0
-OfPlain lead op row = Rest lead op 0 row (Reg 0)
+abbrev pub OfPlain : Lead → ℕ → Row → List ℕ → Meant → Type 0
+OfPlain lead op row = Rest lead op 0 row (Reg 0, 0)
 
-abbrev pub OfModrm : Lead → ℕ → ℕ → Row → List ℕ → Insn × ℕ → Type 0
+abbrev pub OfModrm : Lead → ℕ → ℕ → Row → List ℕ → Meant → Type 0
 OfModrm lead op m row = Operand lead.rex m (λ place. Rest lead op m row place)
 
 pub plain_exact : (lead : Lead) (op : ℕ) (row : Option Row) (bytes : List ℕ) → AreBytes bytes → Exact (Found (OfPlain lead op) row) bytes (found_plain lead op row bytes)
 unfolding found_plain
 plain_exact lead op None bytes h = never_exact bytes
-plain_exact lead op (Some row) bytes h = rest_exact lead op 0 row (Reg 0) bytes h
+plain_exact lead op (Some row) bytes h = rest_exact lead op 0 row (Reg 0, 0) bytes h
 
 pub plain_free : (lead : Lead) (op : ℕ) (row : Option Row) → IsFree (Found (OfPlain lead op) row)
 plain_free lead op None = never_free
-plain_free lead op (Some row) = rest_free lead op 0 row (Reg 0)
+plain_free lead op (Some row) = rest_free lead op 0 row (Reg 0, 0)
 
 found_exact : (lead : Lead) (op m : ℕ) (row : Option Row) (bytes : List ℕ) → AreBytes bytes → Exact (Found (OfModrm lead op m) row) bytes (found_modrm lead op m row bytes)
 unfolding found_modrm
 found_exact lead op m None bytes h = never_exact bytes
 found_exact lead op m (Some row) bytes h =
-    operand_exact lead.rex m (λ place. Rest lead op m row place) (λ p. chunk_at row.imm 0 p.1 >>= λ i. Ok ((meaning row.verb (fields_of lead op m p.0) i.0, lead.skip), i.1)) row.imm
+    operand_exact lead.rex m (λ place. Rest lead op m row place) (λ p. chunk_at row.imm 0 p.1 >>= λ i. Ok (means lead op m row p.0 i.0, i.1)) row.imm
     (λ place. rest_sized lead op m row place) (λ place rest are. rest_exact lead op m row place rest are) bytes h
 
 found_free : (lead : Lead) (op m : ℕ) (row : Option Row) → IsFree (Found (OfModrm lead op m) row)
@@ -100,7 +98,7 @@ only_ends : (lead : Lead) (op n : ℕ) (row : Option Row) (rows : ℕ → Option
 unfolding Only stop_of
 only_ends lead op n None rows e = no
   where
-    no : (t : List ℕ) (a : Insn × ℕ) → Only n (λ m. Found (OfModrm lead op m) (rows m)) t a → ⊥
+    no : (t : List ℕ) (a : Meant) → Only n (λ m. Found (OfModrm lead op m) (rows m)) t a → ⊥
     no [] a h = absurd h
     no (b ∷ u) a h = let P : Option Row → Type 0 = λ r. Found (OfModrm lead op b) r u a in subst P (ap rows h.0 ∙ e) h.1
 only_ends lead op n (Some row) rows e =
@@ -108,7 +106,7 @@ only_ends lead op n (Some row) rows e =
     let P : Option Row → Type 0 = λ r. Found (OfModrm lead op n) r s.text s.value in
     (omega arith, record { text = n ∷ s.text; value = s.value; spelled = (refl, subst P (sym e) s.spelled); long = omega (arith, s.long, len_is n); low = low s })
   where
-    low : Sized (OfModrm lead op n row) (operand_size n + row.imm) → (t : List ℕ) (a : Insn × ℕ) → Only n (λ m. Found (OfModrm lead op m) (rows m)) t a → 1 + (operand_len n + row.imm) ≤ length t
+    low : Sized (OfModrm lead op n row) (operand_size n + row.imm) → (t : List ℕ) (a : Meant) → Only n (λ m. Found (OfModrm lead op m) (rows m)) t a → 1 + (operand_len n + row.imm) ≤ length t
     low s [] a h = absurd h
     low s (b ∷ u) a h =
         let P : ℕ → Type 0 = λ m. Found (OfModrm lead op m) (rows m) u a in
@@ -121,28 +119,28 @@ below_ends : (lead : Lead) (op : ℕ) (rows : ℕ → Option Row) (n : ℕ) → 
 unfolding Below least_modrm
 below_ends lead op rows zero = no
   where
-    no : (t : List ℕ) (a : Insn × ℕ) → Below 0 (λ m. Found (OfModrm lead op m) (rows m)) t a → ⊥
+    no : (t : List ℕ) (a : Meant) → Below 0 (λ m. Found (OfModrm lead op m) (rows m)) t a → ⊥
     no [] a h = h
     no (b ∷ u) a h = let e : b < 0 = h.0 in absurd (omega arith)
 below_ends lead op rows (suc n) =
     union_ends (Below (suc n) (λ m. Found (OfModrm lead op m) (rows m))) (Only n (λ m. Found (OfModrm lead op m) (rows m))) (Below n (λ m. Found (OfModrm lead op m) (rows m))) (stop_of (rows n) n) (least_modrm rows n)
     (one_more n (λ m. Found (OfModrm lead op m) (rows m))) (only_ends lead op n (rows n) rows refl) (below_ends lead op rows n)
 
-unfoldable pub Tail : Lead → Bool → ℕ → List ℕ → Insn × ℕ → Type 0
+unfoldable pub Tail : Lead → Bool → ℕ → List ℕ → Meant → Type 0
 Tail lead escape op = Choose (asks_at escape op) (Byte (λ m. Found (OfModrm lead op m) (row_at lead escape op m))) (Found (OfPlain lead op) (row_at lead escape op 0))
 
 modrm_ends : (lead : Lead) (escape : Bool) (op : ℕ) → Ends (Byte (λ m. Found (OfModrm lead op m) (row_at lead escape op m))) (modrm_stop lead escape op)
 unfolding Below modrm_stop
 modrm_ends lead escape op = ends_as (Below 256 S) (Byte S) (least_modrm (row_at lead escape op) 256) to back (below_ends lead op (row_at lead escape op) 256)
   where
-    S : ℕ → List ℕ → Insn × ℕ → Type 0
+    S : ℕ → List ℕ → Meant → Type 0
     S m = Found (OfModrm lead op m) (row_at lead escape op m)
 
-    to : (t : List ℕ) (a : Insn × ℕ) → Below 256 S t a → Byte S t a
+    to : (t : List ℕ) (a : Meant) → Below 256 S t a → Byte S t a
     to [] a h = h
     to (b ∷ u) a h = h
 
-    back : (t : List ℕ) (a : Insn × ℕ) → Byte S t a → Below 256 S t a
+    back : (t : List ℕ) (a : Meant) → Byte S t a → Below 256 S t a
     back [] a h = h
     back (b ∷ u) a h = h
 

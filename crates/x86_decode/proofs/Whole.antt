@@ -2,13 +2,12 @@
 use Rattle.std.proofs.Common.{◌≡◌, ℕ, ◌==◌, ◌&&◌, not, Bool, true, false, List, [], ◌∷◌, refl, sym, ap, subst, ◌∙◌, if◌then◌else◌}
 use Rattle.std.proofs.lemmas.Bool.{eqb-true}
 use Rattle.erim_defs.specs.declared.grammar.Lead.{Lead}
-use Rattle.erim_defs.specs.declared.insn.Insn.{Insn}
-use Rattle.x86_decode.specs.Reading.{byte_at, ◌>>=◌}
+use Rattle.erim_defs.specs.Reading.{byte_at, ◌>>=◌}
 use Rattle.erim_defs.specs.Parts.{AreBytes, Byte, Choose}
 use Rattle.x86_decode.specs.Exact.{Exact, IsFree}
 use Rattle.erim_defs.specs.Rows.{Line, lines, in_line, same_bool, w_fits}
-use Rattle.erim_defs.specs.Grammar.{In, After, Opcode, Escaped, Body}
-use Rattle.x86_decode.specs.Decoding.{least_body, least_second, tail_at, body_at}
+use Rattle.erim_defs.specs.Grammar.{Meant, In, After, Opcode, Escaped, Body}
+use Rattle.erim_defs.specs.Decoded.{least_body, least_second, tail_at, body_at}
 use Rattle.x86_decode.proofs.Parts.{ends_as, exact_as, free_as, byte_exact, byte_free, when_to, when_back}
 use Rattle.x86_decode.proofs.Lines.{and_true}
 use Rattle.x86_decode.proofs.Agree.{not_escape}
@@ -17,7 +16,7 @@ use Rattle.x86_decode.proofs.Bodies.{at_line, Opcoded, opcoded_to, opcoded_back,
 use Rattle.x86_decode.proofs.Stops.{two_ends, body_ends}
 
 -- by its first byte
-unfoldable pub First : Lead → ℕ → List ℕ → Insn × ℕ → Type 0
+unfoldable pub First : Lead → ℕ → List ℕ → Meant → Type 0
 First lead op = Choose (op == 0x0F) (Byte (Tail lead true)) (Tail lead false op)
 
 no_escape : (line : Line) (lead : Lead) (op : ℕ) → In lines line → line.escape ≡ false → (op == 0x0F) ≡ true → at_line line lead op ≡ true → ⊥
@@ -31,7 +30,7 @@ no_escape line lead op i e q h =
     contrary true p q = absurd cc
     contrary false p q = absurd cc
 
-body_to : (lead : Lead) (t : List ℕ) (a : Insn × ℕ) → Body lead t a → Byte (First lead) t a
+body_to : (lead : Lead) (t : List ℕ) (a : Meant) → Body lead t a → Byte (First lead) t a
 unfolding First Opcoded
 body_to lead t a h = by_escape h.0 h.1 h.0.escape refl t h.2
   where
@@ -47,7 +46,7 @@ body_to lead t a h = by_escape h.0 h.1 h.0.escape refl t h.2
     by_escape line i false e [] p = absurd p
     by_escape line i false e (op ∷ u) p = (p.0, by_first line op u i e p (op == 0x0F) refl)
 
-pub body_back : (lead : Lead) (t : List ℕ) (a : Insn × ℕ) → Byte (First lead) t a → Body lead t a
+pub body_back : (lead : Lead) (t : List ℕ) (a : Meant) → Byte (First lead) t a → Body lead t a
 unfolding First Opcoded
 body_back lead [] a h = absurd h
 body_back lead (op ∷ u) a h = by_first (op == 0x0F) refl h.1

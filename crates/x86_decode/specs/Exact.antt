@@ -1,7 +1,7 @@
 -- When reading answers a part of a spelling exactly. Own.
 use Rattle.std.specs.Prelude.{◌≡◌, ℕ, ◌+◌, ◌<◌, ◌≤◌, List, ◌++◌, length, Result, Ok, Err}
-use Rattle.x86_decode.specs.declared.reading.Stop.{Stop}
-use Rattle.x86_decode.specs.declared.reading.Stop.TheVariants.{Undefined, Short}
+use Rattle.erim_defs.specs.declared.grammar.Stop.{Stop}
+use Rattle.erim_defs.specs.declared.grammar.Stop.TheVariants.{Undefined, Short}
 
 -- a text of the part meets these bytes: it begins them, or they begin it
 pub record Meets {A : Type 0} (R : List ℕ → A → Type 0) (bytes text : List ℕ) (a : A) : Type 0 where

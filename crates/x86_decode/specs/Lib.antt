@@ -1,5 +1,5 @@
 pub mod Reading
 pub mod Exact
 pub mod Coded
-pub mod Decoding
 pub mod Whole
+pub mod Layout

@@ -2,10 +2,11 @@
 
 ghost use Rattle.std.specs.Prelude.{◌≡◌, ◌<◌};
 ghost use Rattle.erim_defs.specs.Operand.{extended, has_sib, disp_size, sib_mem, place_of};
-ghost use Rattle.x86_decode.specs.Reading.{Gives, sib_at, operand_at};
+ghost use Rattle.erim_defs.specs.Reading.{sib_at, operand_at};
+ghost use Rattle.x86_decode.specs.Reading.{Gives};
 
-use crate::reading::{Stop, byte, chunk, signed_of};
-use erim_defs::grammar::Rex;
+use crate::reading::{byte, chunk, signed_of};
+use erim_defs::grammar::{Rex, Stop};
 use erim_defs::{Base, Mem, Place};
 
 /// A register's number with its bit of REX.
@@ -98,7 +99,7 @@ fn place(rex: Rex, m: u8, sib: u8, disp: i32) -> Place
 }
 
 /// The SIB byte, or 0 where there is none.
-#[tactic(auto, unfolding(crate::specs::Reading::sib_at))]
+#[tactic(auto, unfolding(erim_defs::specs::Reading::sib_at))]
 fn sib(m: u8, least: u8, bytes: &[u8]) -> Result<(u8, &[u8]), Stop>
     requires { least < 16 }
     ensures { Gives (λ x. (x.0, x.1.now)) result (sib_at m least bytes.now) }
@@ -110,13 +111,14 @@ fn sib(m: u8, least: u8, bytes: &[u8]) -> Result<(u8, &[u8]), Stop>
     }
 }
 
-/// The operand of a ModRM byte `m`. `least` is what an instruction needs after it.
-#[tactic(auto, unfolding(crate::specs::Reading::operand_at))]
-pub fn operand(rex: Rex, m: u8, least: u8, bytes: &[u8]) -> Result<(Place, &[u8]), Stop>
+/// The operand of a ModRM byte `m`, and how long its displacement is. `least` is what an instruction needs after it.
+#[tactic(auto, unfolding(erim_defs::specs::Reading::operand_at))]
+pub fn operand(rex: Rex, m: u8, least: u8, bytes: &[u8]) -> Result<(Place, u8, &[u8]), Stop>
     requires { least < 16 }
-    ensures { Gives (λ x. (x.0, x.1.now)) result (operand_at rex m least bytes.now) }
+    ensures { Gives (λ x. ((x.0, x.1), x.2.now)) result (operand_at rex m least bytes.now) }
 {
     let (sib, rest) = sib(m, least, bytes)?;
-    let (disp, rest) = chunk(rest, disp_len(m, sib), least)?;
-    Ok((place(rex, m, sib, signed_of(disp)), rest))
+    let size = disp_len(m, sib);
+    let (disp, rest) = chunk(rest, size, least)?;
+    Ok((place(rex, m, sib, signed_of(disp)), size, rest))
 }

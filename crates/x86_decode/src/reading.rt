@@ -2,16 +2,10 @@
 
 ghost use Rattle.std.specs.Prelude.{◌≡◌, ◌<◌};
 ghost use Rattle.erim_defs.specs.Parts.{signed};
-ghost use Rattle.x86_decode.specs.Reading.{Gives, byte_at, chunk_at};
+ghost use Rattle.erim_defs.specs.Reading.{byte_at, chunk_at};
+ghost use Rattle.x86_decode.specs.Reading.{Gives};
 
-/// Why no instruction was read.
-#[derive(Clone, Copy, Debug, PartialEq, Eq)]
-pub enum Stop {
-    /// Nothing that begins so is an instruction.
-    Undefined,
-    /// At least so many bytes are missing.
-    Short(u8),
-}
+use erim_defs::grammar::Stop;
 
 /// The first byte, or `stop`.
 pub fn byte(bytes: &[u8], stop: Stop) -> Result<(u8, &[u8]), Stop>

@@ -1,6 +1,7 @@
 use Rattle.std.proofs.Common.{arith}
 use Rattle.erim_defs.specs.Decoded.{decoded}
-use Rattle.x86_decode.proofs.Spelled.{decodes_again, bytes_of}
+use Rattle.erim_defs.proofs.ByteLemmas.{bytes_of}
+use Rattle.x86_decode.proofs.Spelled.{decodes_again}
 use Rattle.x86_decode.proofs.Function.{decodes_one, decoded_is}
 use Rattle.x86_decode.proofs.Lengths.{is_whole}
 use Rattle.x86_decode.proofs.decoding.decode.Goals as goal
@@ -13,4 +14,3 @@ returns-clause-function c = decodes_one c.args.bytes.now c.first.result (decoded
 
 pub returns-clause-whole : goal.returns-clause-whole
 returns-clause-whole c = is_whole c.args.bytes.now c.first.result c.first.ensures
-    (decodes_one c.args.bytes.now c.first.result (decoded c.args.bytes.now) c.first.ensures (decoded_is c.args.bytes.now (bytes_of c.args.bytes.now (λ i. omega (arith, c.type_inv.bytes i)))))

@@ -1,18 +1,18 @@
 use Rattle.std.proofs.Common.{ℕ, List, arith, ap, ◌∙◌, Err, Result}
-use Rattle.erim_defs.specs.declared.insn.Insn.{Insn}
-use Rattle.x86_decode.specs.declared.reading.Stop.{Stop}
+use Rattle.erim_defs.specs.Grammar.{Meant}
+use Rattle.erim_defs.specs.declared.grammar.Stop.{Stop}
 use Rattle.x86_decode.proofs.Spelled.{found_ok, found_short, found_long, found_none, window_bytes}
 use Rattle.x86_decode.proofs.decoding.first.Goals as goal
 
-abbrev err : Stop → Result ((Insn × ℕ) × List ℕ) Stop
+abbrev err : Stop → Result (Meant × List ℕ) Stop
 err e = Err e
 
 pub overflow_sub-result : goal.overflow_sub-result
-overflow_sub-result c = (found_ok c.args.bytes.now c.window_of-window.result.now c.in-Ok.rest.now c.in-Ok.insn c.in-Ok.skip c.window_of-window.ensures (window_bytes c.args.bytes.now c.window_of-window.result.now c.window_of-window.ensures (λ i. omega (arith, c.type_inv.bytes i))) c.in-Ok.ensures).0
+overflow_sub-result c = (found_ok c.args.bytes.now c.window_of-window.result.now c.in-Ok.rest.now (c.in-Ok.insn, c.in-Ok.skip, c.in-Ok._sizes.disp, c.in-Ok._sizes.imm) c.window_of-window.ensures (window_bytes c.args.bytes.now c.window_of-window.result.now c.window_of-window.ensures (λ i. omega (arith, c.type_inv.bytes i))) c.in-Ok.ensures).0
 
 pub returns-in-Ok : goal.returns-in-Ok
 returns-in-Ok c =
-    let k = found_ok c.args.bytes.now c.window_of-window.result.now c.in-Ok.rest.now c.in-Ok.insn c.in-Ok.skip c.window_of-window.ensures (window_bytes c.args.bytes.now c.window_of-window.result.now c.window_of-window.ensures (λ i. omega (arith, c.type_inv.bytes i))) c.in-Ok.ensures in
+    let k = found_ok c.args.bytes.now c.window_of-window.result.now c.in-Ok.rest.now (c.in-Ok.insn, c.in-Ok.skip, c.in-Ok._sizes.disp, c.in-Ok._sizes.imm) c.window_of-window.ensures (window_bytes c.args.bytes.now c.window_of-window.result.now c.window_of-window.ensures (λ i. omega (arith, c.type_inv.bytes i))) c.in-Ok.ensures in
     (k.1, k.2)
 
 pub returns-then-window-n-le-LIMIT : goal.returns-then-window-n-le-LIMIT

@@ -14,6 +14,7 @@ invariant_of-result c =
     rw c.in_ok-from_slice.ensures.items
     record {
       accepted = c.requires.accepted;
+      octets = c.requires.octets;
       list_is = c.in_ok-segments.ensures;
       trust_is = c.trust.view_is ∙ trust_value _ _ _ _ _ table c.in_ok-texts.ensures c.in_ok-entries.ensures c.new-trust.ensures;
       trusted_is = data_value _ _ _ table c.in_ok-spans.ensures;

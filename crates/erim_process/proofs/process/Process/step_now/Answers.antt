@@ -21,7 +21,7 @@ invariant_of-self c =
       counted = (let counted = held.counted in omega (arith, c.push.ensures.upper_bound, counted, steps.1));
       room = (let room = held.room in omega (arith, room, c.push.ensures.capacity));
       within = omega (arith, steps.0, steps.1);
-      accepted = held.accepted;
+      startable = held.startable;
       tame = held.tame;
       roomy = c.in-Made.ensures.roomy;
       few = (let count = c.in-Made.ensures.count in let few = held.few in omega (arith, count, few));

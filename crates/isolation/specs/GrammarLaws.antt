@@ -1,0 +1,27 @@
+-- What the isolation invariant asks of the grammar of instructions: its laws, what the bytes of the check spell, and
+-- how a spelling of WRPKRU ends. Nothing else of the table of instructions matters to it.
+use Rattle.std.specs.Prelude.{◌≡◌, ℕ, List, [], ◌∷◌, ◌++◌, length}
+use Rattle.erim_defs.specs.declared.found.SeqKind.{SeqKind}
+use Rattle.erim_defs.specs.declared.insn.Insn.TheVariants.{Wrpkru}
+use Rattle.erim_defs.specs.Parts.{AreBytes}
+use Rattle.erim_defs.specs.Grammar.{Spells}
+use Rattle.erim_defs.specs.Decodes.{Decodes, OneSpelling}
+use Rattle.erim_defs.specs.Decoded.{decoded}
+use Rattle.erim_defs.specs.Isolation.{Place}
+use Rattle.isolation.specs.Checks.{place_insn, place_text}
+
+-- a text that ends with 0F 01 EF, behind skip bytes
+pub record EndsInWrpkru (text : List ℕ) (skip : ℕ) : Type 0 where
+  pub front : List ℕ
+  pub parts : text ≡ front ++ 0x0F ∷ 0x01 ∷ 0xEF ∷ []
+  pub skipped : skip ≡ length front
+
+pub record GrammarLaws : Type 0 where
+  -- at most one instruction, and no spelling begins another
+  pub one : OneSpelling
+  -- the function on bytes is what the relation says
+  pub decodes : (bytes : List ℕ) → AreBytes bytes → Decodes bytes (decoded bytes)
+  -- each instruction of the check, with nothing before its opcode
+  pub check : (kind : SeqKind) (place : Place) → Spells (place_text kind place) (place_insn kind place) 0
+  -- WRPKRU
+  pub wrpkru : (text : List ℕ) (skip : ℕ) → Spells text Wrpkru skip → EndsInWrpkru text skip

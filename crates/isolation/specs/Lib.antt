@@ -1,0 +1,3 @@
+pub mod Checks
+pub mod GrammarLaws
+pub mod Laws

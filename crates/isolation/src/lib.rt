@@ -1,0 +1,48 @@
+//! The isolation invariant of the machine, and laws of every run beside it. Each function here is a law: it does
+//! nothing, and its contract is proved.
+#![tactic(auto)]
+
+ghost use Rattle.erim_defs.specs.Isolation.{AlwaysKept};
+ghost use Rattle.isolation.specs.Laws.{ChecksLaw, KeyLaw, OpenLaw, PublishLaw, RefuseLaw, StartLaw, TouchLaw};
+
+/// The isolation invariant holds in every state of every run.
+pub fn always_kept()
+    ensures { AlwaysKept }
+{}
+
+/// What is found of a setup without running it makes it one that can be started.
+pub fn startable()
+    ensures { StartLaw }
+{}
+
+/// At the start, trusted data and trusted heaps are mapped with the trusted key.
+pub fn keyed()
+    ensures { KeyLaw }
+{}
+
+/// Before an escape, each step of an open thread outside trusted text is an exec fault, the next instruction of its
+/// check, or the end of the process.
+pub fn checks_on()
+    ensures { ChecksLaw }
+{}
+
+/// Before an escape, only a thread that is open in trusted text touches trusted memory.
+pub fn touched()
+    ensures { TouchLaw }
+{}
+
+/// A thread opens only by a WRPKRU that occurs in the code, and then stands at an entry or before the check.
+pub fn opened()
+    ensures { OpenLaw }
+{}
+
+/// A page becomes published exactly at an exec fault on a page that asks to be executed, where nothing unsafe stands in
+/// the code with that page.
+pub fn publishes()
+    ensures { PublishLaw }
+{}
+
+/// A run ends as refused exactly at such an exec fault, for the first that is unsafe in the code with that page.
+pub fn refuses()
+    ensures { RefuseLaw }
+{}
