@@ -8,7 +8,7 @@ mod trusted;
 
 pub use first::first_unsafe;
 pub use loading::run_bytes;
-pub use runs::{PAGE_SIZE, Run, next_run};
+pub use runs::{PAGE_SIZE, Run, is_executable, next_run};
 pub use trusted::first_trusted;
 
 #[cfg(test)]

@@ -1,20 +1,13 @@
 //! Images made by hand, and what their code and their trusted text hold first.
 
+ghost use Rattle.std.specs.Prelude.{◌≤◌, length, IfOk};
+
 use crate::{first_trusted, first_unsafe, next_run, run_bytes};
 use elf_image::{Image, ImageFault, read_image};
+use erim_defs::NoMemory;
+use image_gen::{Mark, Part, lay_image};
 use std::alloc::{AllocError, Global};
 use std::test::Fail;
-
-/// A file header with three program headers: a program at 0x401000.
-const FILE_HEADER: [u8; 64] = [
-    0x7F, 0x45, 0x4C, 0x46, 2, 1, 1, 0, 0, 0, 0, 0, 0, 0, 0, 0, // magic, class, data, version
-    2, 0, 62, 0, 1, 0, 0, 0, 0x00, 0x10, 0x40, 0, 0, 0, 0, 0, // type, machine, version, entry
-    64, 0, 0, 0, 0, 0, 0, 0, 0, 0, 0, 0, 0, 0, 0, 0, // the table's place
-    0, 0, 0, 0, 64, 0, 56, 0, 3, 0, 0, 0, 0, 0, 0, 0, // sizes, three headers
-];
-
-/// The type and the name of a trust note.
-const NOTE_HEAD: [u8; 12] = [1, 0, 0, 0, b'E', b'R', b'I', b'M', 0, 0, 0, 0];
 
 /// An image of two executable pages of no-operations, and where something is found first.
 #[derive(Clone, Copy)]
@@ -31,64 +24,49 @@ struct Row<'a> {
     at: Option<u64>,
 }
 
-/// Appends a program header whose part, readable and executable, stands at a place of the file.
-fn push_header(
-    bytes: &mut Vec<u8>,
-    kind: u32,
-    place: u64,
-    at: u64,
-    size: u64,
-) -> Result<(), AllocError> {
-    bytes.extend_from_slice(&kind.to_le_bytes())?;
-    bytes.extend_from_slice(&5_u32.to_le_bytes())?;
-    for field in [place, at, at, size, size, 4] {
-        bytes.extend_from_slice(&field.to_le_bytes())?;
-    }
-    Ok(())
+/// A page of no-operations between these bytes.
+fn page(alloc: Global, vaddr: u64, beginning: &[u8], ending: &[u8]) -> Result<Part, AllocError>
+    ensures { IfOk result (λ part. length part.bytes.items ≤ 8192) }
+{
+    let ending = &ending[..ending.len().min(4096)];
+    let mut bytes = Vec::from_slice(alloc, beginning)?;
+    bytes.resize(4096 - ending.len(), 0x90)?;
+    bytes.extend_from_slice(ending)?;
+    Ok(Part {
+        vaddr,
+        flags: 5,
+        bytes,
+        memsz: 4096,
+    })
 }
 
-/// Appends a record of the trust note. Its key is 1.
-fn push_record(bytes: &mut Vec<u8>, kind: u32, start: u64, length: u64) -> Result<(), AllocError> {
-    bytes.extend_from_slice(&kind.to_le_bytes())?;
-    bytes.extend_from_slice(&1_u32.to_le_bytes())?;
-    bytes.extend_from_slice(&start.to_le_bytes())?;
-    bytes.extend_from_slice(&length.to_le_bytes())
-}
-
-/// Appends the trust note of the records, and before it its program header.
-fn push_note(bytes: &mut Vec<u8>, texts: &[u64], entry: Option<u64>) -> Result<(), AllocError> {
-    // There are two pages.
-    let count = texts.len().min(2) as u32 + u32::from(entry.is_some());
-    let size = 8 + 24 * count;
-    push_header(bytes, 4, 232, 0, 20 + u64::from(size))?;
-    bytes.extend_from_slice(&5_u32.to_le_bytes())?;
-    bytes.extend_from_slice(&size.to_le_bytes())?;
-    bytes.extend_from_slice(&NOTE_HEAD)?;
-    bytes.extend_from_slice(&1_u32.to_le_bytes())?;
-    bytes.extend_from_slice(&count.to_le_bytes())?;
-    for text in texts {
-        push_record(bytes, 1, *text, 4096)?;
+/// A record of trusted text, a page long, or of an entry.
+fn mark(kind: u32, start: u64) -> Mark {
+    Mark {
+        kind,
+        start,
+        length: if kind == 1 { 4096 } else { 0 },
     }
-    if let Some(entry) = entry {
-        push_record(bytes, 3, entry, 0)?;
-    }
-    Ok(())
 }
 
 /// The image of a row.
 fn image(alloc: Global, row: &Row) -> Result<Image, ImageFault> {
-    let mut bytes = Vec::from_slice(alloc, &FILE_HEADER)?;
-    push_header(&mut bytes, 1, 4096, 0x401000, 4096)?;
-    push_header(&mut bytes, 1, 8192, row.other, 4096)?;
-    if !row.texts.is_empty() {
-        push_note(&mut bytes, row.texts, row.entry)?;
+    let parts = [
+        page(alloc, 0x401000, &[], row.ending)?,
+        page(alloc, row.other, row.beginning, &[])?,
+    ];
+    let mut marks = Vec::new(alloc);
+    // There are two pages.
+    for text in &row.texts[..row.texts.len().min(2)] {
+        marks.push(mark(1, *text))?;
     }
-    bytes.resize(4096, 0)?;
-    bytes.resize(8192_usize.saturating_sub(row.ending.len()), 0x90)?;
-    bytes.extend_from_slice(row.ending)?;
-    bytes.extend_from_slice(row.beginning)?;
-    bytes.resize(12288, 0x90)?;
-    read_image(alloc, &bytes)
+    if let Some(entry) = row.entry {
+        marks.push(mark(3, entry))?;
+    }
+    match lay_image(alloc, &parts, &marks, &[], 0x401000) {
+        Ok(bytes) => read_image(alloc, &bytes),
+        Err(NoMemory) => Err(ImageFault::Memory),
+    }
 }
 
 /// A row in which nothing is found: two adjoining pages, and no trusted text.

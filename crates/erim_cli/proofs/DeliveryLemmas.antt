@@ -10,7 +10,7 @@ use Rattle.erim_defs.specs.declared.found.Found.{Found}
 use Rattle.erim_defs.specs.declared.machine.End.{End}
 use Rattle.erim_defs.specs.declared.machine.End.TheVariants.{Exit, Fault, Refused}
 use Rattle.erim_defs.specs.Texts.{error_line}
-use Rattle.erim_defs.specs.Words.{Command, Inspect, Run}
+use Rattle.erim_defs.specs.Words.{Command, Inspect, Disasm, Run}
 use Rattle.erim_cli.specs.Replies.{Saved, Reply, told, not_understood, image_limit, image_list, list_status, end_status, refusal, image_of, IsWorkOf, IsUnlessRefused, IsReplyOn, IsReplyTo}
 use Rattle.erim_cli.specs.Delivery.{World, PutEnds, SavesHeld, noted_file, KeepsStore, IsUntouched, HasNotLoaded, HasNotSaved, IsSavedBy, Ends}
 use Rattle.erim_cli.specs.Deliveries.{HasNotKept, HoldsTooMuch, Delivers, LoadsImage}
@@ -76,6 +76,7 @@ run_own image journal (Some (Refused page found thread)) text bytes = record { n
 
 work_own : (command : Command) (bytes : List ℕ) (reply : Reply) → IsWorkOf command bytes reply → IsOwn (Some command) reply
 work_own (Inspect image) bytes reply is = rw is (list_own (Some (Inspect image)) (image_list bytes) _)
+work_own (Disasm image) bytes reply is = rw is (record { not_failed = omega arith; not_memory = omega arith; save = tt })
 work_own (Run image journal) bytes reply is = rw is.answer (run_own image journal is.last.end _ _)
 
 unless_own : (text : Option (List ℕ)) (command : Command) (bytes : List ℕ) (reply : Reply) → IsUnlessRefused text command bytes reply → IsOwn (Some command) reply

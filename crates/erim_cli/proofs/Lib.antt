@@ -1,4 +1,5 @@
 pub mod DeliveryLemmas
+pub mod DisasmLemmas
 pub mod InspectLemmas
 pub mod ListingLemmas
 pub mod PromiseLemmas

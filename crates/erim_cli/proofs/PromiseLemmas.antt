@@ -9,7 +9,7 @@ use Rattle.erim_io.specs.Sink.{HasRisen}
 use Rattle.erim_defs.specs.declared.found.Found.{Found}
 use Rattle.erim_defs.specs.declared.machine.End.{End}
 use Rattle.erim_defs.specs.declared.machine.End.TheVariants.{Exit, Fault, Refused}
-use Rattle.erim_defs.specs.Words.{Command, Inspect, Run}
+use Rattle.erim_defs.specs.Words.{Command, Inspect, Disasm, Run}
 use Rattle.erim_cli.specs.Replies.{Reply, told, list_status, end_status, image_list, refusal, image_of, IsWorkOf, IsUnlessRefused, IsReplyOn, IsReplyTo}
 use Rattle.erim_cli.specs.Delivery.{World, KeepsStore, HasFailed, Ends}
 use Rattle.erim_cli.specs.Promises.{IsReplying, Tells, IsAbout, TellsWords, TellsRefusal, Shows, TellsWork, GainsLoad, GainsSave, TellsFault, IsComplete}
@@ -33,6 +33,7 @@ end_worked (Some (Refused page found thread)) = record { not_words = omega arith
 
 work_status : (command : Command) (bytes : List ℕ) (reply : Reply) → IsWorkOf command bytes reply → IsWorked reply.status
 work_status (Inspect image) bytes reply is = rw is (list_worked (image_list bytes))
+work_status (Disasm image) bytes reply is = rw is (record { not_words = omega arith; not_refused = omega arith })
 work_status (Run image journal) bytes reply is = rw is.answer (end_worked is.last.end)
 
 -- 3 exactly where there is a text that says why
@@ -95,6 +96,8 @@ ends_refusal words old new status ends command bytes about replying =
 shown : (command : Command) (bytes : List ℕ) (reply : Reply) (old new : World) (status : ℕ) → IsWorkOf command bytes reply → status ≡ reply.status
     → Appends old.written new.written reply.text → KeepsStore reply.save old new → Shows command bytes old new status
 shown (Inspect image) bytes reply old new status is status_is text store =
+    record { answer = status_is ∙ ap (λ (r : Reply). r.status) is; text = rw is at text }
+shown (Disasm image) bytes reply old new status is status_is text store =
     record { answer = status_is ∙ ap (λ (r : Reply). r.status) is; text = rw is at text }
 shown (Run image journal) bytes reply old new status is status_is text store =
     let kept = rw is.answer at store in

@@ -7,7 +7,7 @@ use Rattle.erim_io.specs.declared.store.SaveFault.{SaveFault}
 use Rattle.erim_io.specs.declared.store.Store.{Ghosts as StoreMeanings}
 use Rattle.erim_io.specs.declared.sink.Sink.{Ghosts as SinkMeanings}
 use Rattle.erim_defs.specs.Texts.{error_line}
-use Rattle.erim_defs.specs.Words.{Command, Inspect, Run}
+use Rattle.erim_defs.specs.Words.{Command, Inspect, Disasm, Run}
 use Rattle.erim_cli.specs.Replies.{Saved, Reply, image_of, IsReplyTo}
 
 -- what store and sink tell at a moment
@@ -102,6 +102,7 @@ IsLoadedBy (Some command) name = name ≡ image_of command
 abbrev pub IsSavedBy : Option Command → Name → Type 0
 IsSavedBy None name = ⊥
 IsSavedBy (Some (Inspect image)) name = ⊥
+IsSavedBy (Some (Disasm image)) name = ⊥
 IsSavedBy (Some (Run image journal)) name = name ≡ journal
 
 -- a load or a save of the command's names failed, or a put of its reply

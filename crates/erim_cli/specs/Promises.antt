@@ -4,13 +4,14 @@ use Rattle.std.specs.Io.KnownBytes.{Appends}
 use Rattle.erim_io.specs.Store.{Name, Files, holding}
 use Rattle.erim_io.specs.Sink.{HasRisen}
 use Rattle.erim_defs.specs.declared.machine.Entry.{Entry}
+use Rattle.erim_defs.specs.Disasm.{disasm_text}
 use Rattle.erim_defs.specs.Isolation.{IsIsolated}
 use Rattle.erim_defs.specs.Journal.{journal_text}
 use Rattle.erim_defs.specs.Replay.{replay, IsOver}
 use Rattle.erim_defs.specs.Report.{report}
 use Rattle.erim_defs.specs.State.{State}
 use Rattle.erim_defs.specs.Texts.{inspect_text}
-use Rattle.erim_defs.specs.Words.{Command, Inspect, Run}
+use Rattle.erim_defs.specs.Words.{Command, Inspect, Disasm, Run}
 use Rattle.erim_cli.specs.Replies.{image_list, list_status, end_status, run_setup, refusal, image_of}
 use Rattle.erim_cli.specs.Delivery.{World, IsLoadedBy, IsSavedBy}
 
@@ -42,6 +43,11 @@ pub record ShowsList (bytes : List ℕ) (old new : World) (status : ℕ) : Type 
   pub answer : status ≡ list_status (image_list bytes)
   pub text : Appends old.written new.written (inspect_text (image_list bytes))
 
+-- the text of the image's instructions was added to what was written
+pub record ShowsInstructions (bytes : List ℕ) (old new : World) (status : ℕ) : Type 0 where
+  pub answer : status ≡ 0
+  pub text : Appends old.written new.written (disasm_text bytes)
+
 -- entries that lead from the setup to an end or to where the budget is spent were saved under the journal's name,
 -- and nothing else; the report of their replay was added to what was written; the status is that of its end; every state
 -- of this run, and of each other run of the image, keeps the isolation invariant
@@ -57,6 +63,7 @@ pub record ShowsRun (journal : Name) (bytes : List ℕ) (old new : World) (statu
 
 abbrev pub Shows : Command → List ℕ → World → World → ℕ → Type 0
 Shows (Inspect image) bytes old new status = ShowsList bytes old new status
+Shows (Disasm image) bytes old new status = ShowsInstructions bytes old new status
 Shows (Run image journal) bytes old new status = ShowsRun journal bytes old new status
 
 -- a command whose image isn't refused shows what it found

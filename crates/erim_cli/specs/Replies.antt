@@ -8,6 +8,7 @@ use Rattle.erim_defs.specs.declared.machine.End.{End}
 use Rattle.erim_defs.specs.declared.machine.End.TheVariants.{Exit, Fault, Refused}
 use Rattle.erim_defs.specs.declared.machine.Entry.{Entry}
 use Rattle.erim_defs.specs.Code.{or_else}
+use Rattle.erim_defs.specs.Disasm.{disasm_text}
 use Rattle.erim_defs.specs.Image.{first_fault, image_code, image_entries}
 use Rattle.erim_defs.specs.Isolation.{IsIsolated}
 use Rattle.erim_defs.specs.Journal.{journal_text}
@@ -16,7 +17,7 @@ use Rattle.erim_defs.specs.Report.{report}
 use Rattle.erim_defs.specs.State.{Setup, State}
 use Rattle.erim_defs.specs.Texts.{inspect_text, fault_text, kind_text, address_text, error_line}
 use Rattle.erim_defs.specs.Unsafe.{unsafe_list}
-use Rattle.erim_defs.specs.Words.{Command, Inspect, Run}
+use Rattle.erim_defs.specs.Words.{Command, Inspect, Disasm, Run}
 use Rattle.erim_process.specs.declared.start_fault.StartFault.{StartFault}
 use Rattle.erim_process.specs.declared.start_fault.StartFault.TheVariants.{TrustedUnsafe, TooFewFrames, NotYet, Memory}
 use Rattle.erim_process.specs.Starting.{start_fault}
@@ -55,9 +56,10 @@ start_text (TooFewFrames needed) = codes "image needs " ++ decimal needed ++ cod
 start_text NotYet = codes "image not yet"
 start_text Memory = codes "out of memory"
 
--- an image is inspected whether it can start or not
+-- an image is inspected and its instructions are printed whether it can start or not
 abbrev pub start_refusal : Command → List ℕ → Option (List ℕ)
 start_refusal (Inspect image) bytes = None
+start_refusal (Disasm image) bytes = None
 start_refusal (Run image journal) bytes = option_map start_text (start_fault (run_setup bytes))
 
 -- why the bytes are refused: they are too many, else their first fault as an image, else the cause that keeps it from starting
@@ -79,6 +81,11 @@ image_list bytes = unsafe_list (image_entries bytes) (image_code bytes)
 
 abbrev pub listed_reply : List Found → Reply
 listed_reply os = record { status = list_status os; text = inspect_text os; save = None }
+
+-- ---- disasm
+
+abbrev pub disasm_reply : List ℕ → Reply
+disasm_reply bytes = record { status = 0; text = disasm_text bytes; save = None }
 
 -- ---- run
 
@@ -112,11 +119,13 @@ pub record IsRunReply (journal : Name) (setup : Setup) (reply : Reply) : Type 0 
 -- the image that a command loads
 abbrev pub image_of : Command → Name
 image_of (Inspect image) = image
+image_of (Disasm image) = image
 image_of (Run image journal) = image
 
 -- what a command does with bytes that aren't refused
 abbrev pub IsWorkOf : Command → List ℕ → Reply → Type 0
 IsWorkOf (Inspect image) bytes reply = reply ≡ listed_reply (image_list bytes)
+IsWorkOf (Disasm image) bytes reply = reply ≡ disasm_reply bytes
 IsWorkOf (Run image journal) bytes reply = IsRunReply journal (run_setup bytes) reply
 
 abbrev pub IsUnlessRefused : Option (List ℕ) → Command → List ℕ → Reply → Type 0

@@ -11,6 +11,7 @@ ghost use Rattle.std.specs.Option.{option_map};
 ghost use Rattle.std.specs.String.{string_bytes};
 ghost use Rattle.erim_defs.specs.Words.{Run};
 
+use crate::disasm::disasm_reply;
 use crate::inspect::list_reply;
 use crate::reply::{Reply, Status};
 use crate::running::run_reply;
@@ -63,6 +64,7 @@ fn work_on<'a>(alloc: Global, command: &Command<'a>, image: Image) -> Result<Rep
 {
     match *command {
         Command::Inspect { .. } => list_reply(alloc, &image),
+        Command::Disasm { .. } => disasm_reply(alloc, &image),
         Command::Run { journal, .. } => started_reply(alloc, image, journal),
     }
 }

@@ -2,6 +2,7 @@
 #![tactic(auto)]
 
 mod answering;
+mod disasm;
 mod finishing;
 mod inspect;
 mod journal;

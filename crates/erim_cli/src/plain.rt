@@ -99,8 +99,9 @@ fn obey<S: Store, K: Sink>(alloc: Global, words: &[String], store: &mut S, out: 
 
 /// Does what the words say over the store and the output, and answers the program's status.
 ///
-/// The first word is the program's name. `inspect IMAGE` prints the unsafe list of the image code; `run IMAGE JOURNAL`
-/// runs the image, saves the journal of the run and prints its report.
+/// The first word is the program's name. `inspect IMAGE` prints the unsafe list of the image code; `disasm IMAGE` prints
+/// the instructions of the executable segments' file parts; `run IMAGE JOURNAL` runs the image, saves the journal of the
+/// run and prints its report.
 pub fn erim_plain<S: Store, K: Sink>(
     alloc: Global,
     words: &[String],
@@ -116,8 +117,8 @@ pub fn erim_plain<S: Store, K: Sink>(
     // 3 exactly where the image is above 8 MiB, has a fault, or is to be run and can't start.
     ensures refusal { TellsRefusal (command_of (map string_bytes words.now)) (world S.Store K.Sink store.old out.old) result }
 
-    // Else: `inspect` told the unsafe list of the image code; `run` saved the journal of a run of the machine and told
-    // the report of its replay.
+    // Else: `inspect` told the unsafe list of the image code; `disasm` told its instructions; `run` saved the journal of
+    // a run of the machine and told the report of its replay.
     ensures work { TellsWork (command_of (map string_bytes words.now)) (world S.Store K.Sink store.old out.old) (world S.Store K.Sink store.new out.new) result }
 
     // 4 only where a name that the command loads or saves joined the failed ones, or the sink's count rose.

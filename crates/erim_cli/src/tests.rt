@@ -4,4 +4,5 @@ mod calling;
 mod delivering;
 mod inspecting;
 mod laying;
+mod printing;
 mod running;

@@ -3,7 +3,7 @@
 ghost use Rattle.std.specs.Prelude.{◌≡◌, ◌↔◌, List, map, IsTrue};
 ghost use Rattle.std.specs.Option.{option_map};
 ghost use Rattle.std.specs.String.{string_bytes};
-ghost use Rattle.erim_defs.specs.Words.{command_of, inspect_of, run_of, is_option};
+ghost use Rattle.erim_defs.specs.Words.{command_of, only_image, run_of, is_option, Inspect, Disasm};
 ghost use Rattle.erim_cli.specs.Commands.{meaning};
 ghost use Rattle.erim_cli.specs.Replies.{image_of};
 
@@ -12,6 +12,8 @@ ghost use Rattle.erim_cli.specs.Replies.{image_of};
 pub enum Command<'a> {
     /// Prints the unsafe list of an image.
     Inspect { image: &'a str },
+    /// Prints the instructions of an image.
+    Disasm { image: &'a str },
     /// Runs an image, saves the journal of the run, and prints its report.
     Run { image: &'a str, journal: &'a str },
 }
@@ -22,7 +24,8 @@ impl<'a> Command<'a> {
         ensures { result.now ≡ image_of (meaning self.now) }
     {
         match self {
-            Command::Inspect { image } | Command::Run { image, .. } => image,
+            Command::Inspect { image } | Command::Disasm { image } | Command::Run { image, .. } =>
+                image,
         }
     }
 }
@@ -34,16 +37,30 @@ fn is_option(word: &str) -> bool
     matches!(word.as_bytes(), [b'-', _, ..])
 }
 
-/// The command `inspect` with its words.
-fn inspect_of(words: &[String]) -> Option<Command<'_>>
-    ensures { option_map meaning result ≡ inspect_of (map string_bytes words.now) }
+/// The image of a command that has nothing else.
+fn only_image(words: &[String]) -> Option<&str>
+    ensures { option_map (λ image. image.now) result ≡ only_image (map string_bytes words.now) }
 {
     match words {
-        [image] if !is_option(image.as_str()) => Some(Command::Inspect {
-            image: image.as_str(),
-        }),
+        [image] if !is_option(image.as_str()) => Some(image.as_str()),
         _ => None,
     }
+}
+
+/// The command `inspect` with its words.
+fn inspect_of(words: &[String]) -> Option<Command<'_>>
+    ensures { option_map meaning result ≡ option_map Inspect (only_image (map string_bytes words.now)) }
+{
+    let image = only_image(words)?;
+    Some(Command::Inspect { image })
+}
+
+/// The command `disasm` with its words.
+fn disasm_of(words: &[String]) -> Option<Command<'_>>
+    ensures { option_map meaning result ≡ option_map Disasm (only_image (map string_bytes words.now)) }
+{
+    let image = only_image(words)?;
+    Some(Command::Disasm { image })
 }
 
 /// The command `run` with its words.
@@ -68,6 +85,7 @@ pub fn command_of(words: &[String]) -> Option<Command<'_>>
 {
     match words {
         [_program, command, others @ ..] if command.as_str() == "inspect" => inspect_of(others),
+        [_program, command, others @ ..] if command.as_str() == "disasm" => disasm_of(others),
         [_program, command, others @ ..] if command.as_str() == "run" => run_of(others),
         _ => None,
     }

@@ -17,6 +17,7 @@ pub mod Verbs
 pub mod Grammar
 pub mod Decodes
 pub mod Decoded
+pub mod Notation
 pub mod Alu
 pub mod Meaning
 pub mod State
@@ -25,5 +26,9 @@ pub mod Step
 pub mod Start
 pub mod Replay
 pub mod Isolation
+pub mod Disasm
 pub mod Journal
 pub mod Report
+pub mod LayImage
+pub mod WellFormed
+pub mod Canonical

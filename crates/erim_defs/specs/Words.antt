@@ -1,11 +1,14 @@
 -- What a list of words means. Own. The first word is the program's name, whatever it is.
 use Rattle.std.specs.Prelude.{ℕ, ◌==◌, ◌||◌, Bool, false, Option, Some, None, List, [], ◌∷◌, codes, if◌then◌else◌}
+use Rattle.std.specs.Option.{option_map}
 use Rattle.std.specs.Str.{bytes_eq}
 
 -- a command with its names, each as its bytes
 pub data Command : Type 0 where
   -- prints the unsafe list of an image
   Inspect : (image : List ℕ) → Command
+  -- prints the instructions of an image
+  Disasm : (image : List ℕ) → Command
   -- runs an image, saves the journal of the run, and prints its report
   Run : (image journal : List ℕ) → Command
 
@@ -15,11 +18,11 @@ is_option [] = false
 is_option (c ∷ []) = false
 is_option (c ∷ d ∷ rest) = c == 45
 
--- `inspect IMAGE`
-abbrev pub inspect_of : List (List ℕ) → Option Command
-inspect_of [] = None
-inspect_of (image ∷ []) = if is_option image then None else Some (Inspect image)
-inspect_of (image ∷ more ∷ rest) = None
+-- the image of a command that has nothing else: `inspect IMAGE`, `disasm IMAGE`
+abbrev pub only_image : List (List ℕ) → Option (List ℕ)
+only_image [] = None
+only_image (image ∷ []) = if is_option image then None else Some image
+only_image (image ∷ more ∷ rest) = None
 
 -- `run IMAGE JOURNAL`
 abbrev pub run_of : List (List ℕ) → Option Command
@@ -31,7 +34,8 @@ run_of (image ∷ journal ∷ more ∷ rest) = None
 abbrev pub named_command : List (List ℕ) → Option Command
 named_command [] = None
 named_command (command ∷ others) =
-    if bytes_eq command (codes "inspect") then inspect_of others
+    if bytes_eq command (codes "inspect") then option_map Inspect (only_image others)
+    else if bytes_eq command (codes "disasm") then option_map Disasm (only_image others)
     else if bytes_eq command (codes "run") then run_of others
     else None
 

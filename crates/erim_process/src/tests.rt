@@ -1,28 +1,14 @@
 //! Worked rows of the machine.
 
+ghost use Rattle.std.specs.Prelude.{◌≡◌, length, IfOk};
+
 use crate::{Process, Setup, StartFault, Stepped};
 use elf_image::read_image;
-use erim_defs::{End, Found, SeqKind};
+use erim_defs::{End, Found, NoMemory, SeqKind};
+use image_gen::{Mark, Part, lay_image};
 use std::alloc::{AllocError, Global};
 use std::process::Abort;
 use std::test::Fail;
-
-/// The file header up to the entry point.
-const HEAD: [u8; 24] = [
-    0x7F, 0x45, 0x4C, 0x46, 2, 1, 1, 0, 0, 0, 0, 0, 0, 0, 0, 0, // magic, class, data, version
-    2, 0, 62, 0, 1, 0, 0, 0, // type, machine, version
-];
-
-/// The rest of it, with four program headers.
-const TAIL: [u8; 32] = [
-    64, 0, 0, 0, 0, 0, 0, 0, 0, 0, 0, 0, 0, 0, 0, 0, // the table's place
-    0, 0, 0, 0, 64, 0, 56, 0, 4, 0, 0, 0, 0, 0, 0, 0, // sizes, four headers
-];
-
-/// The head of a trust note of three records: sizes and type, name, version and count.
-const NOTE_HEAD: [u8; 28] = [
-    5, 0, 0, 0, 80, 0, 0, 0, 1, 0, 0, 0, b'E', b'R', b'I', b'M', 0, 0, 0, 0, 1, 0, 0, 0, 3, 0, 0, 0,
-];
 
 /// Leaves with status 0.
 const LEAVING: [u8; 12] = [
@@ -61,36 +47,20 @@ struct Page<'a> {
     bytes: &'a [u8],
 }
 
-/// Appends a program header.
-fn push_header(
-    bytes: &mut Vec<u8>,
-    kind: u32,
-    flags: u32,
-    place: u64,
-    at: u64,
-    size: u64,
-) -> Result<(), AllocError> {
-    bytes.extend_from_slice(&kind.to_le_bytes())?;
-    bytes.extend_from_slice(&flags.to_le_bytes())?;
-    for field in [place, at, at, size, size, 4] {
-        bytes.extend_from_slice(&field.to_le_bytes())?;
-    }
-    Ok(())
-}
-
-/// Appends a record of the trust note. Its key is 1.
-fn push_record(bytes: &mut Vec<u8>, kind: u32, start: u64, length: u64) -> Result<(), AllocError> {
-    bytes.extend_from_slice(&kind.to_le_bytes())?;
-    bytes.extend_from_slice(&1_u32.to_le_bytes())?;
-    bytes.extend_from_slice(&start.to_le_bytes())?;
-    bytes.extend_from_slice(&length.to_le_bytes())
-}
-
-/// Appends a page's bytes, zeros before them, up to a place of the file.
-fn push_page(bytes: &mut Vec<u8>, page: &Page, place: u16, end: usize) -> Result<(), AllocError> {
-    bytes.resize(usize::from(place) + usize::from(page.place), 0)?;
+/// A part that is a page at an address.
+fn part(alloc: Global, vaddr: u64, page: &Page) -> Result<Part, AllocError>
+    ensures { IfOk result (λ part. length part.bytes.items ≡ 4096) }
+{
+    let mut bytes = Vec::new(alloc);
+    bytes.resize(usize::from(page.place), 0)?;
     bytes.extend_from_slice(page.bytes)?;
-    bytes.resize(end, 0)
+    bytes.resize(4096, 0)?;
+    Ok(Part {
+        vaddr,
+        flags: page.flags,
+        bytes,
+        memsz: 4096,
+    })
 }
 
 /// The image of the pages at 0x401000, 0x402000 and 0x404000. With an entry, the second is trusted text and the third
@@ -100,24 +70,22 @@ fn image(
     start: u64,
     pages: &[Page; 3],
     entry: Option<u64>,
-) -> Result<Vec<u8>, AllocError> {
-    let mut bytes = Vec::from_slice(alloc, &HEAD)?;
-    bytes.extend_from_slice(&start.to_le_bytes())?;
-    bytes.extend_from_slice(&TAIL)?;
-    push_header(&mut bytes, 1, pages[0].flags, 4096, 0x401000, 4096)?;
-    push_header(&mut bytes, 1, pages[1].flags, 8192, 0x402000, 4096)?;
-    push_header(&mut bytes, 1, pages[2].flags, 12288, 0x404000, 4096)?;
-    if let Some(entry) = entry {
-        push_header(&mut bytes, 4, 4, 288, 0, 100)?;
-        bytes.extend_from_slice(&NOTE_HEAD)?;
-        push_record(&mut bytes, 1, 0x402000, 4096)?;
-        push_record(&mut bytes, 3, entry, 0)?;
-        push_record(&mut bytes, 2, 0x404000, 4096)?;
-    }
-    push_page(&mut bytes, &pages[0], 4096, 8192)?;
-    push_page(&mut bytes, &pages[1], 8192, 12288)?;
-    push_page(&mut bytes, &pages[2], 12288, 16384)?;
-    Ok(bytes)
+) -> Result<Vec<u8>, NoMemory> {
+    let parts = [
+        part(alloc, 0x401000, &pages[0])?,
+        part(alloc, 0x402000, &pages[1])?,
+        part(alloc, 0x404000, &pages[2])?,
+    ];
+    let Some(entry) = entry else {
+        return lay_image(alloc, &parts, &[], &[], start);
+    };
+    let marks = [(1, 0x402000, 4096), (3, entry, 0), (2, 0x404000, 4096)];
+    let marks = marks.map(|(kind, start, length)| Mark {
+        kind,
+        start,
+        length,
+    });
+    lay_image(alloc, &parts, &marks, &[], start)
 }
 
 /// A setup of the bytes, which are an image.
@@ -130,7 +98,7 @@ fn setup(rt: &impl Abort, alloc: Global, bytes: &[u8], budget: u16, frames: u8) 
 }
 
 /// The image of one page that leaves at once.
-fn leaving(alloc: Global) -> Result<Vec<u8>, AllocError> {
+fn leaving(alloc: Global) -> Result<Vec<u8>, NoMemory> {
     let pages = [
         Page {
             flags: RX,

@@ -32,7 +32,7 @@ pub fn check_call(
     status: u8,
     text: &str,
 ) -> Result<(), Fail> {
-    let mut out = MemSink::new(alloc, Vec::new(alloc), 4096)?;
+    let mut out = MemSink::new(alloc, Vec::new(alloc), 131_072)?;
     let words = words(alloc, texts)?;
     let ended = erim_plain(alloc, words.as_slice(), held, &mut out);
     assert_eq!(rt; out.written(), text.as_bytes(), "{what}");

@@ -3,8 +3,9 @@
 use super::calling::{check_call, store, words};
 use super::laying::{RX, laid, page_at};
 use crate::plain::erim_plain;
+use erim_defs::NoMemory;
 use erim_io::{FileStore, MemSink, Store};
-use std::alloc::{AllocError, Global};
+use std::alloc::Global;
 use std::test::Fail;
 
 const INSPECT: [&str; 3] = ["erim", "inspect", "image"];
@@ -12,7 +13,7 @@ const INSPECT: [&str; 3] = ["erim", "inspect", "image"];
 const RUN: [&str; 4] = ["erim", "run", "image", "journal"];
 
 /// The image of a page that leaves with status 0.
-fn leaving(alloc: Global) -> Result<Vec<u8>, AllocError> {
+fn leaving(alloc: Global) -> Result<Vec<u8>, NoMemory> {
     let code = [
         0xBF, 0x00, 0x00, 0x00, 0x00, 0xB8, 0xE7, 0x00, 0x00, 0x00, 0x0F, 0x05,
     ];
@@ -21,7 +22,7 @@ fn leaving(alloc: Global) -> Result<Vec<u8>, AllocError> {
 
 #[test]
 fn words_that_mean_no_command(rt: HostRuntime) -> Result<(), Fail> {
-    let rows: [&[&str]; 14] = [
+    let rows: [&[&str]; 16] = [
         &[],
         &["erim"],
         &["erim", "--help"],
@@ -30,6 +31,8 @@ fn words_that_mean_no_command(rt: HostRuntime) -> Result<(), Fail> {
         &["erim", "inspect", "-image"],
         &["erim", "inspect", "image", "image"],
         &["erim", "Inspect", "image"],
+        &["erim", "disasm"],
+        &["erim", "disasm", "image", "journal"],
         &["erim", "run"],
         &["erim", "run", "image"],
         &["erim", "run", "image", "journal", "more"],

@@ -1,7 +1,7 @@
 use Rattle.std.proofs.Common.{◌≡◌, Some, false, refl}
 use Rattle.std.specs.Fmt.{styled_digits_output, digits}
 use Rattle.erim_defs.specs.Texts.{zero_filled}
-use Rattle.erim_cli.proofs.TextLemmas.{zeros_in_front}
+use Rattle.erim_defs.proofs.TextLemmas.{zeros_in_front}
 use Rattle.erim_cli.proofs.text.address_text.Goals as goal
 
 pub returns : goal.returns

@@ -3,7 +3,8 @@ use Rattle.std.specs.Prelude.{codes}
 use Rattle.std.specs.String.{string_bytes}
 use Rattle.std.specs.Fmt.{styled_digits_output, digits}
 use Rattle.erim_defs.specs.Texts.{kind_text, unsafe_line, zero_filled}
-use Rattle.erim_cli.proofs.TextLemmas.{zeros_in_front, unsafe_line_joins}
+use Rattle.erim_defs.proofs.TextLemmas.{zeros_in_front}
+use Rattle.erim_cli.proofs.TextLemmas.{unsafe_line_joins}
 use Rattle.erim_cli.proofs.text.push_unsafe_line.Goals as goal
 
 pub returns : goal.returns

@@ -1,5 +1,5 @@
 #!/bin/sh
-# Times `erim inspect` on images of 2, 4 and 8 MiB: zeros, `0F 01 EF` over and over, random bytes.
+# Times `erim inspect` and `erim disasm` on images of 2, 4 and 8 MiB: zeros, `0F 01 EF` over and over, random bytes.
 # Prints for each the seconds, the greatest memory in KiB and the bytes of output.
 here=$(cd "$(dirname "$0")" && pwd) || exit 1
 work=$(mktemp -d) || exit 1
@@ -11,8 +11,10 @@ for mib in 2 4 8; do
     python3 -c "import sys; sys.stdout.buffer.write((b'\x0f\x01\xef' * ($size // 3 + 1))[:$size])" |
         python3 "$here/lay_image.py" "$work/wrpkru" $size
     head -c $size /dev/urandom | python3 "$here/lay_image.py" "$work/random" $size
-    for kind in zeros wrpkru random; do
-        /usr/bin/time -f '%e %M' -o "$work/time" "$here/../erim" inspect "$work/$kind" >"$work/out"
-        printf '%s MiB %s: %s seconds/KiB, %s bytes printed\n' "$mib" "$kind" "$(tail -n 1 "$work/time")" "$(wc -c <"$work/out")"
+    for command in inspect disasm; do
+        for kind in zeros wrpkru random; do
+            /usr/bin/time -f '%e %M' -o "$work/time" "$here/../erim" $command "$work/$kind" >"$work/out"
+            printf '%s %s MiB %s: %s seconds/KiB, %s bytes printed\n' $command "$mib" "$kind" "$(tail -n 1 "$work/time")" "$(wc -c <"$work/out")"
+        done
     done
 done

@@ -1,0 +1,108 @@
+//! The headers of an image.
+
+ghost use Rattle.std.specs.Prelude.{◌≡◌, ◌==◌, ◌^◌, ◌<◌, ◌≤◌, ◌++◌, length, OnOk, if◌then◌else◌};
+ghost use Rattle.std.specs.List.{flat_map};
+ghost use Rattle.erim_defs.specs.LayImage.{file_header, multiple_from, pieces, program_header};
+ghost use Rattle.image_gen.specs.Parts.{header_bytes, part_values, total_bytes};
+
+use crate::field::{multiple_from, push_halves, push_words, push_xwords};
+use crate::part::Part;
+use std::alloc::AllocError;
+
+/// What a program header tells. Its p_paddr is its p_vaddr.
+#[derive(Clone, Copy)]
+struct Header {
+    kind: u32,
+    flags: u32,
+    place: u64,
+    vaddr: u64,
+    filesz: u64,
+    memsz: u64,
+    align: u64,
+}
+
+/// Appends the file header, of 64 bytes, of an image with `count` program headers.
+pub fn push_file_header(bytes: &mut Vec<u8>, count: u16, entry: u64) -> Result<(), AllocError>
+    ensures { OnOk result (bytes.new.items ≡ bytes.old.items ++ file_header count entry) }
+{
+    bytes.extend_from_slice(&[0x7F, b'E', b'L', b'F', 2, 1, 1, 0, 0, 0, 0, 0, 0, 0, 0, 0])?;
+    push_halves(bytes, &[2, 62])?;
+    push_words(bytes, &[1])?;
+    push_xwords(bytes, &[entry, 64, 0])?;
+    push_words(bytes, &[0])?;
+    push_halves(bytes, &[64, 56, count, 0, 0, 0])
+}
+
+/// Appends a program header, of 56 bytes.
+fn push_header(bytes: &mut Vec<u8>, header: &Header) -> Result<(), AllocError>
+    ensures { OnOk result (bytes.new.items ≡ bytes.old.items ++ header_bytes header.now) }
+{
+    push_words(bytes, &[header.kind, header.flags])?;
+    push_xwords(
+        bytes,
+        &[
+            header.place,
+            header.vaddr,
+            header.vaddr,
+            header.filesz,
+            header.memsz,
+            header.align,
+        ],
+    )
+}
+
+/// The place in the file of a part's `length` bytes, behind the end of all before.
+pub fn part_place(end: u64, length: u64) -> u64
+    requires { end < 2 ^ 63 }
+    ensures { result ≡ (if length == 0 then 0 else multiple_from 4096 end) }
+{
+    if length == 0 {
+        0
+    } else {
+        multiple_from(4096, end)
+    }
+}
+
+/// Appends the program headers of the parts, whose bytes stand behind `start`, and of the notes where there are any.
+pub fn push_headers(
+    bytes: &mut Vec<u8>,
+    start: u64,
+    parts: &[Part],
+    notes: &[u8],
+) -> Result<(), AllocError>
+    requires start { start ≤ 4096 }
+    requires few { length parts.now ≤ 63 }
+    requires small { total_bytes parts.now ≤ 16777216 }
+    ensures { OnOk result (bytes.new.items ≡ bytes.old.items ++ flat_map program_header (pieces start (part_values parts.now) notes.now)) }
+{
+    let mut end = start;
+    for part in parts {
+        let filesz = part.bytes.len() as u64;
+        let place = part_place(end, filesz);
+        let header = Header {
+            kind: 1,
+            flags: part.flags,
+            place,
+            vaddr: part.vaddr,
+            filesz,
+            memsz: part.memsz,
+            align: 4096,
+        };
+        push_header(bytes, &header)?;
+        end = end.max(place + filesz);
+    }
+    if notes.is_empty() {
+        return Ok(());
+    }
+    let filesz = notes.len() as u64;
+    let header = Header {
+        kind: 4,
+        flags: 4,
+        place: multiple_from(4, end),
+        vaddr: 0,
+        filesz,
+        memsz: filesz,
+        align: 4,
+    };
+    push_header(bytes, &header)
+}

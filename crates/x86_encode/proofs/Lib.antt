@@ -1,0 +1,14 @@
+pub mod Numbers
+pub mod Facts
+pub mod Leads
+pub mod Operands
+pub mod Texts
+pub mod Views
+pub mod Founds
+pub mod Good
+pub mod Arithmetics
+pub mod Moves
+pub mod Flows
+pub mod Shapes
+pub mod Ranges
+pub mod ReadBack
