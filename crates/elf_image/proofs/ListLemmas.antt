@@ -1,9 +1,11 @@
 -- The lists that an image tells, one item after another.
-use Rattle.std.proofs.Common.{◌≡◌, ℕ, ◌+◌, ◌<◌, ◌≤◌, List, [], ◌∷◌, ◌++◌, true, false, eqb, refl, ap, append_assoc}
+use Rattle.std.proofs.Common.{◌≡◌, ℕ, ◌+◌, ◌<◌, ◌≤◌, List, [], ◌∷◌, ◌++◌, true, false, eqb, refl}
+use Rattle.std.proofs.Common.{ap, append_assoc}
 use Rattle.std.proofs.lemmas.List.{append-nil}
 use Rattle.erim_defs.specs.declared.segment.Segment.{Segment}
 use Rattle.erim_defs.specs.declared.trust.Span.{Span}
-use Rattle.erim_defs.specs.Image.{header_count, is_entry_record, is_loadable, loadable, segments, span_of, starts_of}
+use Rattle.erim_defs.specs.Inspection.Image.{header_count, is_entry_record, is_loadable}
+use Rattle.erim_defs.specs.Inspection.Image.{loadable_segments, segments, span_of, starts_of}
 use Rattle.elf_image.specs.declared.records.RecordTable.{RecordTable}
 use Rattle.elf_image.specs.Table.{header_of, headers_left}
 use Rattle.elf_image.specs.Records.{record_of, records_left, table_records}
@@ -11,49 +13,75 @@ use Rattle.elf_image.specs.Form.{spans_in}
 use Rattle.elf_image.proofs.TableLemmas.{headers_left-all, headers_left-next, headers_left-none}
 use Rattle.elf_image.proofs.RecordLemmas.{records_left-all, records_left-next, records_left-none}
 
-pub segments_begin : (bytes : List ℕ) → [] ++ loadable (headers_left bytes 0) ≡ segments bytes
-segments_begin bytes = ap loadable (headers_left-all bytes)
+pub segments_begin : (bytes : List ℕ)
+    → [] ++ loadable_segments (headers_left bytes 0) ≡ segments bytes
+segments_begin bytes = ap loadable_segments (headers_left-all bytes)
 
-pub segments_load : (bytes : List ℕ) (index : ℕ) (list : List Segment) → index < header_count bytes → is_loadable (header_of bytes index) ≡ true
-    → (list ++ (header_of bytes index).segment ∷ []) ++ loadable (headers_left bytes (index + 1)) ≡ list ++ loadable (headers_left bytes index)
-unfolding loadable
-segments_load bytes index list lt loads = rw (headers_left-next bytes index lt, loads, append_assoc) refl
+pub segments_load : (bytes : List ℕ) (index : ℕ) (list : List Segment) → index < header_count bytes
+    → is_loadable (header_of bytes index) ≡ true
+    → (list ++ (header_of bytes index).segment ∷ [])
+    ++ loadable_segments (headers_left bytes (index + 1))
+    ≡ list ++ loadable_segments (headers_left bytes index)
+unfolding loadable_segments
+segments_load bytes index list lt loads =
+    rw (headers_left-next bytes index lt, loads, append_assoc) refl
 
-pub segments_pass : (bytes : List ℕ) (index : ℕ) → index < header_count bytes → is_loadable (header_of bytes index) ≡ false → loadable (headers_left bytes index) ≡ loadable (headers_left bytes (index + 1))
-unfolding loadable
+pub segments_pass : (bytes : List ℕ) (index : ℕ) → index < header_count bytes
+    → is_loadable (header_of bytes index) ≡ false
+    → loadable_segments (headers_left bytes index)
+    ≡ loadable_segments (headers_left bytes (index + 1))
+unfolding loadable_segments
 segments_pass bytes index lt other = rw (headers_left-next bytes index lt, other) refl
 
-pub segments_end : (bytes : List ℕ) (index : ℕ) (list : List Segment) → header_count bytes ≤ index → list ++ loadable (headers_left bytes index) ≡ list
-unfolding loadable
+pub segments_end : (bytes : List ℕ) (index : ℕ) (list : List Segment) → header_count bytes ≤ index
+    → list ++ loadable_segments (headers_left bytes index) ≡ list
+unfolding loadable_segments
 segments_end bytes index list past = rw (headers_left-none bytes index past) (append-nil list)
 
-pub spans_begin : (bytes : List ℕ) (table : RecordTable) (kind : ℕ) → [] ++ spans_in kind (records_left bytes table 0) ≡ spans_in kind (table_records bytes table)
+pub spans_begin : (bytes : List ℕ) (table : RecordTable) (kind : ℕ)
+    → [] ++ spans_in kind (records_left bytes table 0) ≡ spans_in kind (table_records bytes table)
 spans_begin bytes table kind = ap (spans_in kind) (records_left-all bytes table)
 
-pub spans_take : (bytes : List ℕ) (table : RecordTable) (kind index : ℕ) (list : List Span) → index < table.count → eqb (record_of bytes table index).kind kind ≡ true
-    → (list ++ span_of (record_of bytes table index) ∷ []) ++ spans_in kind (records_left bytes table (index + 1)) ≡ list ++ spans_in kind (records_left bytes table index)
+pub spans_take : (bytes : List ℕ) (table : RecordTable) (kind index : ℕ) (list : List Span)
+    → index < table.count → eqb (record_of bytes table index).kind kind ≡ true
+    → (list ++ span_of (record_of bytes table index) ∷ [])
+    ++ spans_in kind (records_left bytes table (index + 1))
+    ≡ list ++ spans_in kind (records_left bytes table index)
 unfolding spans_in
-spans_take bytes table kind index list lt test = rw (records_left-next bytes table index lt, test, append_assoc) refl
+spans_take bytes table kind index list lt test =
+    rw (records_left-next bytes table index lt, test, append_assoc) refl
 
-pub spans_pass : (bytes : List ℕ) (table : RecordTable) (kind index : ℕ) → index < table.count → eqb (record_of bytes table index).kind kind ≡ false
-    → spans_in kind (records_left bytes table index) ≡ spans_in kind (records_left bytes table (index + 1))
+pub spans_pass : (bytes : List ℕ) (table : RecordTable) (kind index : ℕ) → index < table.count
+    → eqb (record_of bytes table index).kind kind ≡ false
+    → spans_in kind (records_left bytes table index)
+    ≡ spans_in kind (records_left bytes table (index + 1))
 unfolding spans_in
 spans_pass bytes table kind index lt test = rw (records_left-next bytes table index lt, test) refl
 
-pub spans_end : (bytes : List ℕ) (table : RecordTable) (kind index : ℕ) (list : List Span) → table.count ≤ index → list ++ spans_in kind (records_left bytes table index) ≡ list
+pub spans_end : (bytes : List ℕ) (table : RecordTable) (kind index : ℕ) (list : List Span)
+    → table.count ≤ index → list ++ spans_in kind (records_left bytes table index) ≡ list
 unfolding spans_in
-spans_end bytes table kind index list past = rw (records_left-none bytes table index past) (append-nil list)
+spans_end bytes table kind index list past =
+    rw (records_left-none bytes table index past) (append-nil list)
 
-pub entries_begin : (bytes : List ℕ) (table : RecordTable) → [] ++ starts_of (records_left bytes table 0) ≡ starts_of (table_records bytes table)
+pub entries_begin : (bytes : List ℕ) (table : RecordTable)
+    → [] ++ starts_of (records_left bytes table 0) ≡ starts_of (table_records bytes table)
 entries_begin bytes table = ap starts_of (records_left-all bytes table)
 
-pub entries_take : (bytes : List ℕ) (table : RecordTable) (index : ℕ) (list : List ℕ) → index < table.count → is_entry_record (record_of bytes table index) ≡ true
-    → (list ++ (record_of bytes table index).start ∷ []) ++ starts_of (records_left bytes table (index + 1)) ≡ list ++ starts_of (records_left bytes table index)
-entries_take bytes table index list lt test = rw (records_left-next bytes table index lt, test, append_assoc) refl
+pub entries_take : (bytes : List ℕ) (table : RecordTable) (index : ℕ) (list : List ℕ)
+    → index < table.count → is_entry_record (record_of bytes table index) ≡ true
+    → (list ++ (record_of bytes table index).start ∷ [])
+    ++ starts_of (records_left bytes table (index + 1))
+    ≡ list ++ starts_of (records_left bytes table index)
+entries_take bytes table index list lt test =
+    rw (records_left-next bytes table index lt, test, append_assoc) refl
 
-pub entries_pass : (bytes : List ℕ) (table : RecordTable) (index : ℕ) → index < table.count → is_entry_record (record_of bytes table index) ≡ false
+pub entries_pass : (bytes : List ℕ) (table : RecordTable) (index : ℕ) → index < table.count
+    → is_entry_record (record_of bytes table index) ≡ false
     → starts_of (records_left bytes table index) ≡ starts_of (records_left bytes table (index + 1))
 entries_pass bytes table index lt test = rw (records_left-next bytes table index lt, test) refl
 
-pub entries_end : (bytes : List ℕ) (table : RecordTable) (index : ℕ) (list : List ℕ) → table.count ≤ index → list ++ starts_of (records_left bytes table index) ≡ list
-entries_end bytes table index list past = rw (records_left-none bytes table index past) (append-nil list)
+pub entries_end : (bytes : List ℕ) (table : RecordTable) (index : ℕ) (list : List ℕ)
+    → table.count ≤ index → list ++ starts_of (records_left bytes table index) ≡ list
+entries_end bytes table index list past =
+    rw (records_left-none bytes table index past) (append-nil list)

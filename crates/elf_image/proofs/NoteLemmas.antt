@@ -1,16 +1,25 @@
 -- One note after another.
-use Rattle.std.proofs.Common.{◌≡◌, ℕ, zero, suc, ◌+◌, ◌*◌, ◌<◌, ◌≤◌, List, [], ◌∷◌, ◌++◌, length, Option, Some, None, Bool, true, false, cond, ◌||◌, ◌&&◌, inl, inr, not, eqb, refl, sym, ◌∙◌, ap, arith, min}
+use Rattle.std.proofs.Common.{◌≡◌, ℕ, zero, suc, ◌+◌, ◌*◌, ◌<◌, ◌≤◌, List, [], ◌∷◌, ◌++◌, length}
+use Rattle.std.proofs.Common.{Option, Some, None, Bool, true, false, cond, ◌||◌, ◌&&◌, inl, inr}
+use Rattle.std.proofs.Common.{not, eqb, refl, sym, ◌∙◌, ap, arith, min}
 use Rattle.std.specs.List.{list_any}
 use Rattle.std.specs.Prelude.{is_some, IfSome}
-use Rattle.std.proofs.lemmas.Bool.{cases_lt, and_parts, and_from, eqb-true, ne_eqb, leb-true, le-leb, lt-leb}
-use Rattle.erim_defs.specs.Code.{or_else}
+use Rattle.std.proofs.lemmas.Bool.{cases_lt, and_parts, and_from, eqb-true, ne_eqb, leb-true}
+use Rattle.std.proofs.lemmas.Bool.{le-leb, lt-leb}
+use Rattle.erim_defs.specs.Inspection.Code.{or_else}
 use Rattle.erim_defs.specs.declared.fault.ImageFault.{ImageFault}
 use Rattle.erim_defs.specs.declared.fault.ImageFault.TheVariants.{NoteShape, NoteVersion}
-use Rattle.erim_defs.specs.Image.{Header, Note, Record, desc_size, header_count, header_note_fault, header_notes, headers, is_functions, is_note_shaped, is_trust, is_versioned, item_count, name_size, next_note, note_at, note_end, note_fault, note_fault_between, notes, notes_between, notes_of, padded, records_from, records_in, version_fault}
+use Rattle.erim_defs.specs.Inspection.Image.{Header, Note, Record, desc_size, header_count}
+use Rattle.erim_defs.specs.Inspection.Image.{header_note_fault, header_notes, headers, is_functions}
+use Rattle.erim_defs.specs.Inspection.Image.{is_note_shaped, is_trust, is_versioned, item_count}
+use Rattle.erim_defs.specs.Inspection.Image.{name_size, next_note, note_at, note_end, note_fault}
+use Rattle.erim_defs.specs.Inspection.Image.{note_fault_between, notes, notes_between, notes_of}
+use Rattle.erim_defs.specs.Inspection.Image.{padded_size, records_from, records_in, version_fault}
 use Rattle.elf_image.specs.declared.notes.NotesSeen.{NotesSeen}
 use Rattle.elf_image.specs.declared.records.RecordTable.{RecordTable}
 use Rattle.elf_image.specs.Table.{header_of, headers_left}
-use Rattle.elf_image.specs.Notes.{HasRecords, HasTableOf, IsReadBefore, IsReadTo, is_sound, nothing_seen, see, see_all, seen_records, table_of}
+use Rattle.elf_image.specs.Notes.{HasRecords, HasTableOf, IsReadBefore, IsReadTo, is_sound}
+use Rattle.elf_image.specs.Notes.{nothing_seen, see, see_all, seen_records, table_of}
 use Rattle.elf_image.proofs.TableLemmas.{headers_left-all, headers_left-next, headers_left-none}
 
 -- ---- what is known after notes
@@ -23,18 +32,22 @@ or_false : (a : Bool) → (a || false) ≡ a
 or_false true = refl
 or_false false = refl
 
-is_some-see : (t : Option RecordTable) (new : RecordTable) (b : Bool) → is_some (cond b (or_else t (Some new)) t) ≡ (is_some t || b)
+is_some-see : (t : Option RecordTable) (new : RecordTable) (b : Bool)
+    → is_some (cond b (or_else t (Some new)) t) ≡ (is_some t || b)
 is_some-see None new true = refl
 is_some-see None new false = refl
 is_some-see (Some x) new true = refl
 is_some-see (Some x) new false = refl
 
-pub see_all-functions : (bytes : List ℕ) (seen : NotesSeen) (ns : List Note) → (see_all bytes seen ns).functions ≡ (seen.functions || list_any is_functions ns)
+pub see_all-functions : (bytes : List ℕ) (seen : NotesSeen) (ns : List Note)
+    → (see_all bytes seen ns).functions ≡ (seen.functions || list_any is_functions ns)
 unfolding see_all see
 see_all-functions bytes seen [] = sym (or_false seen.functions)
-see_all-functions bytes seen (n ∷ ns) = see_all-functions bytes (see bytes seen n) ns ∙ or_assoc seen.functions (is_functions n) (list_any is_functions ns)
+see_all-functions bytes seen (n ∷ ns) = see_all-functions bytes (see bytes seen n) ns
+    ∙ or_assoc seen.functions (is_functions n) (list_any is_functions ns)
 
-pub see_all-trust : (bytes : List ℕ) (seen : NotesSeen) (ns : List Note) → is_some (see_all bytes seen ns).trust ≡ (is_some seen.trust || list_any is_trust ns)
+pub see_all-trust : (bytes : List ℕ) (seen : NotesSeen) (ns : List Note)
+    → is_some (see_all bytes seen ns).trust ≡ (is_some seen.trust || list_any is_trust ns)
 unfolding see_all see
 see_all-trust bytes seen [] = sym (or_false (is_some seen.trust))
 see_all-trust bytes seen (n ∷ ns) =
@@ -51,46 +64,61 @@ and_true : (a : Bool) → (a && true) ≡ a
 and_true true = refl
 and_true false = refl
 
-see_all-versioned : (bytes : List ℕ) (seen : NotesSeen) (ns : List Note) → (see_all bytes seen ns).versioned ≡ (seen.versioned && not (list_any (λ n. not (is_versioned bytes n)) ns))
+see_all-versioned : (bytes : List ℕ) (seen : NotesSeen) (ns : List Note)
+    → (see_all bytes seen ns).versioned
+    ≡ (seen.versioned && not (list_any (λ n. not (is_versioned bytes n)) ns))
 unfolding see_all see
 see_all-versioned bytes seen [] = sym (and_true seen.versioned)
 see_all-versioned bytes seen (n ∷ ns) =
     see_all-versioned bytes (see bytes seen n) ns
-    ∙ versioned_step seen.versioned (is_versioned bytes n) (list_any (λ n. not (is_versioned bytes n)) ns)
+    ∙ versioned_step seen.versioned (is_versioned bytes n)
+    (list_any (λ n. not (is_versioned bytes n)) ns)
 
 first_records : (bytes : List ℕ) → Option RecordTable → List Note → List Record
 first_records bytes None ns = records_in bytes ns
 first_records bytes (Some table) ns = records_from bytes table.place table.count
 
-first_records-seen : (bytes : List ℕ) (t : Option RecordTable) → first_records bytes t [] ≡ seen_records bytes t
+first_records-seen : (bytes : List ℕ) (t : Option RecordTable)
+    → first_records bytes t [] ≡ seen_records bytes t
 unfolding first_records records_in
 first_records-seen bytes None = refl
 first_records-seen bytes (Some table) = refl
 
-first_records-see : (bytes : List ℕ) (t : Option RecordTable) (n : Note) (ns : List Note) (b : Bool) → is_trust n ≡ b
-    → first_records bytes (cond b (or_else t (Some (table_of bytes n))) t) ns ≡ first_records bytes t (n ∷ ns)
+first_records-see : (bytes : List ℕ) (t : Option RecordTable) (n : Note) (ns : List Note) (b : Bool)
+    → is_trust n ≡ b
+    → first_records bytes (cond b (or_else t (Some (table_of bytes n))) t) ns
+    ≡ first_records bytes t (n ∷ ns)
 unfolding first_records records_in
 first_records-see bytes None n ns true e = rw e refl
 first_records-see bytes None n ns false e = rw e refl
 first_records-see bytes (Some x) n ns true e = refl
 first_records-see bytes (Some x) n ns false e = refl
 
-see_all-records : (bytes : List ℕ) (seen : NotesSeen) (ns : List Note) → seen_records bytes (see_all bytes seen ns).trust ≡ first_records bytes seen.trust ns
+see_all-records : (bytes : List ℕ) (seen : NotesSeen) (ns : List Note)
+    → seen_records bytes (see_all bytes seen ns).trust ≡ first_records bytes seen.trust ns
 unfolding see_all see
 see_all-records bytes seen [] = sym (first_records-seen bytes seen.trust)
-see_all-records bytes seen (n ∷ ns) = see_all-records bytes (see bytes seen n) ns ∙ first_records-see bytes seen.trust n ns (is_trust n) refl
+see_all-records bytes seen (n ∷ ns) = see_all-records bytes (see bytes seen n) ns
+    ∙ first_records-see bytes seen.trust n ns (is_trust n) refl
 
 -- what is known after all notes of an image
-pub seen-records : (bytes : List ℕ) (after : NotesSeen) → after ≡ see_all bytes nothing_seen (notes bytes) → seen_records bytes after.trust ≡ records_in bytes (notes bytes)
+pub seen-records : (bytes : List ℕ) (after : NotesSeen)
+    → after ≡ see_all bytes nothing_seen (notes bytes)
+    → seen_records bytes after.trust ≡ records_in bytes (notes bytes)
 unfolding first_records
 seen-records bytes after e = rw e (see_all-records bytes nothing_seen (notes bytes))
 
-pub seen-functions : (bytes : List ℕ) (after : NotesSeen) → after ≡ see_all bytes nothing_seen (notes bytes) → after.functions ≡ list_any is_functions (notes bytes)
+pub seen-functions : (bytes : List ℕ) (after : NotesSeen)
+    → after ≡ see_all bytes nothing_seen (notes bytes)
+    → after.functions ≡ list_any is_functions (notes bytes)
 seen-functions bytes after e = rw e (see_all-functions bytes nothing_seen (notes bytes))
 
-pub seen-versioned : (bytes : List ℕ) (after : NotesSeen) → after ≡ see_all bytes nothing_seen (notes bytes) → version_fault bytes ≡ cond after.versioned None (Some NoteVersion)
+pub seen-versioned : (bytes : List ℕ) (after : NotesSeen)
+    → after ≡ see_all bytes nothing_seen (notes bytes)
+    → version_fault bytes ≡ cond after.versioned None (Some NoteVersion)
 seen-versioned bytes after e =
-    let v : after.versioned ≡ not (list_any (λ n. not (is_versioned bytes n)) (notes bytes)) = rw e (see_all-versioned bytes nothing_seen (notes bytes)) in
+    let v : after.versioned ≡ not (list_any (λ n. not (is_versioned bytes n)) (notes bytes)) =
+    rw e (see_all-versioned bytes nothing_seen (notes bytes)) in
     rw v (not_cond (list_any (λ n. not (is_versioned bytes n)) (notes bytes)))
   where
     not_cond : (b : Bool) → cond b (Some NoteVersion) None ≡ cond (not b) None (Some NoteVersion)
@@ -100,39 +128,49 @@ seen-versioned bytes after e =
 -- ---- notes between two places
 
 -- behind the end there are none
-past_fault : (bytes : List ℕ) (left place end : ℕ) (trust functions : Bool) → end ≤ place → note_fault_between bytes left place end trust functions ≡ None
+past_fault : (bytes : List ℕ) (left place end : ℕ) (trust functions : Bool) → end ≤ place
+    → note_fault_between bytes left place end trust functions ≡ None
 unfolding note_fault_between
 past_fault bytes zero place end trust functions h = refl
 past_fault bytes (suc left) place end trust functions h = rw (le-leb end place h) refl
 
-past_notes : (bytes : List ℕ) (left place end : ℕ) → end ≤ place → notes_between bytes left place end ≡ []
+past_notes : (bytes : List ℕ) (left place end : ℕ) → end ≤ place
+    → notes_between bytes left place end ≡ []
 unfolding notes_between
 past_notes bytes zero place end h = refl
 past_notes bytes (suc left) place end h = rw (lt-leb (place + 12) end (omega arith)) refl
 
 -- so a place may be cut to the end
-cut_fault : (bytes : List ℕ) (left place end : ℕ) (trust functions : Bool) → note_fault_between bytes left (min place end) end trust functions ≡ note_fault_between bytes left place end trust functions
+cut_fault : (bytes : List ℕ) (left place end : ℕ) (trust functions : Bool)
+    → note_fault_between bytes left (min place end) end trust functions
+    ≡ note_fault_between bytes left place end trust functions
 cut_fault bytes left place end trust functions =
     elim (cases_lt place end) [
       | inl before ↦ (let e : min place end ≡ place = omega arith in rw e refl)
-      | inr past ↦ past_fault bytes left (min place end) end trust functions (omega arith) ∙ sym (past_fault bytes left place end trust functions past)
+      | inr past ↦ past_fault bytes left (min place end) end trust functions (omega arith)
+          ∙ sym (past_fault bytes left place end trust functions past)
     ]
 
-cut_notes : (bytes : List ℕ) (left place end : ℕ) → notes_between bytes left (min place end) end ≡ notes_between bytes left place end
+cut_notes : (bytes : List ℕ) (left place end : ℕ)
+    → notes_between bytes left (min place end) end ≡ notes_between bytes left place end
 cut_notes bytes left place end =
     elim (cases_lt place end) [
       | inl before ↦ (let e : min place end ≡ place = omega arith in rw e refl)
-      | inr past ↦ past_notes bytes left (min place end) end (omega arith) ∙ sym (past_notes bytes left place end past)
+      | inr past ↦ past_notes bytes left (min place end) end (omega arith)
+          ∙ sym (past_notes bytes left place end past)
     ]
 
-fault_stops : (bytes : List ℕ) (left place end : ℕ) (trust functions : Bool) → place < end → is_sound bytes place end trust functions ≡ false
+fault_stops : (bytes : List ℕ) (left place end : ℕ) (trust functions : Bool) → place < end
+    → is_sound bytes place end trust functions ≡ false
     → note_fault_between bytes (suc left) place end trust functions ≡ Some (NoteShape place)
 unfolding note_fault_between is_sound
 fault_stops bytes left place end trust functions h test = rw (lt-leb end place h, test) refl
 
-fault_goes_on : (bytes : List ℕ) (left place end : ℕ) (trust functions : Bool) → place < end → is_sound bytes place end trust functions ≡ true
+fault_goes_on : (bytes : List ℕ) (left place end : ℕ) (trust functions : Bool) → place < end
+    → is_sound bytes place end trust functions ≡ true
     → note_fault_between bytes (suc left) place end trust functions
-    ≡ note_fault_between bytes left (next_note bytes place) end (trust || is_trust (note_at bytes place)) (functions || is_functions (note_at bytes place))
+    ≡ note_fault_between bytes left (next_note bytes place) end (trust
+    || is_trust (note_at bytes place)) (functions || is_functions (note_at bytes place))
 unfolding note_fault_between is_sound
 fault_goes_on bytes left place end trust functions h test = rw (lt-leb end place h, test) refl
 
@@ -147,85 +185,125 @@ not_not : (b : Bool) → not b ≡ true → b ≡ false
 not_not true h = cc
 not_not false h = refl
 
-pub sound_view : (bytes : List ℕ) (place end : ℕ) (trust functions : Bool) → is_sound bytes place end trust functions ≡ true → IsSound bytes place end trust
+pub sound_view : (bytes : List ℕ) (place end : ℕ) (trust functions : Bool)
+    → is_sound bytes place end trust functions ≡ true → IsSound bytes place end trust
 unfolding is_sound
 sound_view bytes place end trust functions h =
     let p = and_parts _ _ h in
     let q = and_parts _ _ p.1 in
     let r = and_parts _ _ q.1 in
     let s = and_parts _ _ r.1 in
-    record { header = leb-true _ _ p.0; whole = leb-true _ _ q.0; shaped = r.0; first = not_not _ s.0 }
+    record {
+      header = leb-true _ _ p.0;
+      whole = leb-true _ _ q.0;
+      shaped = r.0;
+      first = not_not _
+          s.0;
+    }
 
 notes_go_on : (bytes : List ℕ) (left place end : ℕ) → place + 12 ≤ end → note_end bytes place ≤ end
-    → notes_between bytes (suc left) place end ≡ note_at bytes place ∷ notes_between bytes left (next_note bytes place) end
+    → notes_between bytes (suc left) place end
+    ≡ note_at bytes place ∷ notes_between bytes left (next_note bytes place) end
 unfolding notes_between
-notes_go_on bytes left place end header whole = rw (and_from _ _ (le-leb (place + 12) end header) (le-leb (note_end bytes place) end whole)) refl
+notes_go_on bytes left place end header whole =
+    rw (and_from _ _ (le-leb (place + 12) end header) (le-leb (note_end bytes place) end whole))
+    refl
 
 -- the records of a trust note lie in its desc
-table_within : (bytes : List ℕ) (place : ℕ) → is_trust (note_at bytes place) ≡ true → is_note_shaped bytes (note_at bytes place) ≡ true → note_end bytes place ≤ length bytes
+table_within : (bytes : List ℕ) (place : ℕ) → is_trust (note_at bytes place) ≡ true
+    → is_note_shaped bytes (note_at bytes place) ≡ true → note_end bytes place ≤ length bytes
     → HasTableOf bytes (table_of bytes (note_at bytes place))
 table_within bytes place trust shaped whole =
     let counted = rw trust at shaped in
     let p = and_parts _ _ counted in
     let q = and_parts _ _ p.1 in
     let long : 8 ≤ desc_size bytes place = leb-true _ _ p.0 in
-    let size : desc_size bytes place ≡ 8 + 24 * item_count bytes (note_at bytes place) = eqb-true _ _ q.0 in
-    let some : eqb (desc_size bytes place) 0 ≡ false = ne_eqb _ _ (λ (e : desc_size bytes place ≡ 0). absurd (omega arith)) in
-    let all : place + 12 + padded (name_size bytes place) + desc_size bytes place ≤ length bytes = rw some at whole in
+    let size : desc_size bytes place ≡ 8 + 24 * item_count bytes (note_at bytes place) =
+    eqb-true _ _ q.0 in
+    let some : eqb (desc_size bytes place) 0 ≡ false =
+    ne_eqb _ _ (λ (e : desc_size bytes place ≡ 0). absurd (omega arith)) in
+    let all : place + 12 + padded_size (name_size bytes place) + desc_size bytes place ≤ length
+    bytes = rw some at whole in
     record { few = leb-true _ _ q.1; within = omega arith }
 
-records-see : (bytes : List ℕ) (t : Option RecordTable) (place : ℕ) (b : Bool) → is_trust (note_at bytes place) ≡ b → is_note_shaped bytes (note_at bytes place) ≡ true → note_end bytes place ≤ length bytes
-    → IfSome t (HasTableOf bytes) → IfSome (cond b (or_else t (Some (table_of bytes (note_at bytes place)))) t) (HasTableOf bytes)
+records-see : (bytes : List ℕ) (t : Option RecordTable) (place : ℕ) (b : Bool)
+    → is_trust (note_at bytes place) ≡ b → is_note_shaped bytes (note_at bytes place) ≡ true
+    → note_end bytes place ≤ length bytes
+    → IfSome t (HasTableOf bytes)
+    → IfSome (cond b (or_else t (Some (table_of bytes (note_at bytes place)))) t)
+    (HasTableOf bytes)
 records-see bytes None place true trust shaped whole h = table_within bytes place trust shaped whole
 records-see bytes (Some x) place true trust shaped whole h = h
 records-see bytes None place false trust shaped whole h = h
 records-see bytes (Some x) place false trust shaped whole h = h
 
-pub read_begins : (bytes : List ℕ) (end size start : ℕ) (before : NotesSeen) → HasRecords bytes before → start ≤ end → IsReadTo bytes end size start before size start before
-read_begins bytes end size start before records le = record { fault = refl; seen_is = refl; records = records; place_le = le }
+pub read_begins : (bytes : List ℕ) (end size start : ℕ) (before : NotesSeen)
+    → HasRecords bytes before → start ≤ end → IsReadTo bytes end size start before size start before
+read_begins bytes end size start before records le =
+    record { fault = refl; seen_is = refl; records = records; place_le = le }
 
-pub read_goes_on : (bytes : List ℕ) (end left more place size start : ℕ) (seen before : NotesSeen) → IsReadTo bytes end left place seen size start before → left ≡ suc more → place < end → end ≤ length bytes
+pub read_goes_on : (bytes : List ℕ) (end left more place size start : ℕ) (seen before : NotesSeen)
+    → IsReadTo bytes end left place seen size start before → left ≡ suc more → place < end
+    → end ≤ length bytes
     → is_sound bytes place end (is_some seen.trust) seen.functions ≡ true
-    → IsReadTo bytes end more (min (next_note bytes place) end) (see bytes seen (note_at bytes place)) size start before
+    → IsReadTo bytes end more (min (next_note bytes place) end)
+    (see bytes seen (note_at bytes place)) size start before
 unfolding see see_all
 read_goes_on bytes end left more place size start seen before so_far count lt within test =
     let sound = sound_view bytes place end (is_some seen.trust) seen.functions test in
-    let trust = is_some-see seen.trust (table_of bytes (note_at bytes place)) (is_trust (note_at bytes place)) in
+    let trust = is_some-see seen.trust (table_of bytes (note_at bytes place))
+    (is_trust (note_at bytes place)) in
     record {
       fault =
           cut_fault bytes more (next_note bytes place) end _ _
-          ∙ ap (λ t. note_fault_between bytes more (next_note bytes place) end t (seen.functions || is_functions (note_at bytes place))) trust
+          ∙ ap (λ t. note_fault_between bytes more (next_note bytes place) end t (seen.functions
+          || is_functions (note_at bytes place))) trust
           ∙ sym (fault_goes_on bytes more place end (is_some seen.trust) seen.functions lt test)
-          ∙ ap (λ n. note_fault_between bytes n place end (is_some seen.trust) seen.functions) (sym count)
+          ∙ ap (λ n. note_fault_between bytes n place end (is_some seen.trust) seen.functions)
+          (sym count)
           ∙ so_far.fault;
       seen_is =
-          ap (see_all bytes (see bytes seen (note_at bytes place))) (cut_notes bytes more (next_note bytes place) end)
-          ∙ ap (see_all bytes seen) (sym (notes_go_on bytes more place end sound.header sound.whole))
+          ap (see_all bytes (see bytes seen (note_at bytes place)))
+          (cut_notes bytes more (next_note bytes place) end)
+          ∙ ap (see_all bytes seen)
+          (sym (notes_go_on bytes more place end sound.header sound.whole))
           ∙ ap (λ n. see_all bytes seen (notes_between bytes n place end)) (sym count)
           ∙ so_far.seen_is;
-      records = records-see bytes seen.trust place (is_trust (note_at bytes place)) refl sound.shaped (omega (arith, sound.whole)) so_far.records;
+      records = records-see bytes seen.trust place (is_trust (note_at bytes place)) refl
+          sound.shaped (omega (arith, sound.whole)) so_far.records;
       place_le = omega arith;
     }
 
-pub read_stops : (bytes : List ℕ) (end left more place size start : ℕ) (seen before : NotesSeen) → IsReadTo bytes end left place seen size start before → left ≡ suc more → place < end
+pub read_stops : (bytes : List ℕ) (end left more place size start : ℕ) (seen before : NotesSeen)
+    → IsReadTo bytes end left place seen size start before → left ≡ suc more → place < end
     → is_sound bytes place end (is_some seen.trust) seen.functions ≡ false
-    → note_fault_between bytes size start end (is_some before.trust) before.functions ≡ Some (NoteShape place)
+    → note_fault_between bytes size start end (is_some before.trust) before.functions
+    ≡ Some (NoteShape place)
 read_stops bytes end left more place size start seen before so_far count lt test =
     sym so_far.fault
     ∙ ap (λ n. note_fault_between bytes n place end (is_some seen.trust) seen.functions) count
     ∙ fault_stops bytes more place end (is_some seen.trust) seen.functions lt test
 
-pub read_ends : (bytes : List ℕ) (end left place size start : ℕ) (seen before : NotesSeen) → IsReadTo bytes end left place seen size start before → end ≤ place
-    → (note_fault_between bytes size start end (is_some before.trust) before.functions ≡ None) × (seen ≡ see_all bytes before (notes_between bytes size start end)) × HasRecords bytes seen
+pub read_ends : (bytes : List ℕ) (end left place size start : ℕ) (seen before : NotesSeen)
+    → IsReadTo bytes end left place seen size start before → end ≤ place
+    → (note_fault_between bytes size start end (is_some before.trust) before.functions ≡ None)
+    × (seen ≡ see_all bytes before (notes_between bytes size start end)) × HasRecords bytes seen
 unfolding see_all
-read_ends bytes end left place size start seen before so_far past =
-    (sym so_far.fault ∙ past_fault bytes left place end _ _ past, ap (see_all bytes seen) (sym (past_notes bytes left place end past)) ∙ so_far.seen_is, so_far.records)
+read_ends bytes end left place size start seen before so_far past = (
+  sym so_far.fault ∙ past_fault bytes left place end _ _ past,
+  ap (see_all bytes seen)
+      (sym (past_notes bytes left place end past)) ∙ so_far.seen_is,
+  so_far.records,
+)
 
-pub read_runs_out : (bytes : List ℕ) (end left place size start : ℕ) (seen before : NotesSeen) → IsReadTo bytes end left place seen size start before → left ≡ 0
-    → (note_fault_between bytes size start end (is_some before.trust) before.functions ≡ None) × (seen ≡ see_all bytes before (notes_between bytes size start end)) × HasRecords bytes seen
+pub read_runs_out : (bytes : List ℕ) (end left place size start : ℕ) (seen before : NotesSeen)
+    → IsReadTo bytes end left place seen size start before → left ≡ 0
+    → (note_fault_between bytes size start end (is_some before.trust) before.functions ≡ None)
+    × (seen ≡ see_all bytes before (notes_between bytes size start end)) × HasRecords bytes seen
 unfolding see_all note_fault_between notes_between
 read_runs_out bytes end left place size start seen before so_far none = (
-  sym so_far.fault ∙ ap (λ n. note_fault_between bytes n place end (is_some seen.trust) seen.functions) none,
+  sym so_far.fault ∙ ap (λ n. note_fault_between bytes n place end (is_some seen.trust)
+      seen.functions) none,
   ap (λ n. see_all bytes seen (notes_between bytes n place end)) (sym none) ∙ so_far.seen_is,
   so_far.records,
 )
@@ -241,59 +319,78 @@ all_begins bytes =
       records = tt;
     }
 
-fault_header : (bytes : List ℕ) (h : Header) (hs : List Header) (trust functions : Bool) → header_note_fault bytes h trust functions ≡ None
-    → note_fault bytes (h ∷ hs) trust functions ≡ note_fault bytes hs (trust || list_any is_trust (header_notes bytes h)) (functions || list_any is_functions (header_notes bytes h))
+fault_header : (bytes : List ℕ) (h : Header) (hs : List Header) (trust functions : Bool)
+    → header_note_fault bytes h trust functions ≡ None
+    → note_fault bytes (h ∷ hs) trust functions
+    ≡ note_fault bytes hs (trust || list_any is_trust (header_notes bytes h)) (functions
+    || list_any is_functions (header_notes bytes h))
 unfolding note_fault
 fault_header bytes h hs trust functions none = rw none refl
 
-fault_header_stops : (bytes : List ℕ) (h : Header) (hs : List Header) (trust functions : Bool) (fault : ImageFault) → header_note_fault bytes h trust functions ≡ Some fault
+fault_header_stops : (bytes : List ℕ) (h : Header) (hs : List Header) (trust functions : Bool)
+    (fault : ImageFault) → header_note_fault bytes h trust functions ≡ Some fault
     → note_fault bytes (h ∷ hs) trust functions ≡ Some fault
 unfolding note_fault
 fault_header_stops bytes h hs trust functions fault some = rw some refl
 
-see_all-append : (bytes : List ℕ) (seen : NotesSeen) (xs ys : List Note) → see_all bytes seen (xs ++ ys) ≡ see_all bytes (see_all bytes seen xs) ys
+see_all-append : (bytes : List ℕ) (seen : NotesSeen) (xs ys : List Note)
+    → see_all bytes seen (xs ++ ys) ≡ see_all bytes (see_all bytes seen xs) ys
 unfolding see_all
 see_all-append bytes seen [] ys = refl
 see_all-append bytes seen (x ∷ xs) ys = see_all-append bytes (see bytes seen x) xs ys
 
-pub all_go_on : (bytes : List ℕ) (index : ℕ) (seen after : NotesSeen) → IsReadBefore bytes index seen → index < header_count bytes
+pub all_go_on : (bytes : List ℕ) (index : ℕ) (seen after : NotesSeen)
+    → IsReadBefore bytes index seen → index < header_count bytes
     → header_note_fault bytes (header_of bytes index) (is_some seen.trust) seen.functions ≡ None
-    → after ≡ see_all bytes seen (header_notes bytes (header_of bytes index)) → HasRecords bytes after
+    → after ≡ see_all bytes seen (header_notes bytes (header_of bytes index))
+    → HasRecords bytes after
     → IsReadBefore bytes (index + 1) after
 all_go_on bytes index seen after so_far lt none after_is records =
     let h = header_of bytes index in
     let hs = headers_left bytes (index + 1) in
     let here = header_notes bytes h in
-    let trust : is_some after.trust ≡ (is_some seen.trust || list_any is_trust here) = rw after_is (see_all-trust bytes seen here) in
-    let functions : after.functions ≡ (seen.functions || list_any is_functions here) = rw after_is (see_all-functions bytes seen here) in
+    let trust : is_some after.trust ≡ (is_some seen.trust || list_any is_trust here) =
+    rw after_is (see_all-trust bytes seen here) in
+    let functions : after.functions ≡ (seen.functions || list_any is_functions here) =
+    rw after_is (see_all-functions bytes seen here) in
     record {
       fault =
           ap (λ t. note_fault bytes hs t after.functions) trust
           ∙ ap (note_fault bytes hs (is_some seen.trust || list_any is_trust here)) functions
           ∙ sym (fault_header bytes h hs (is_some seen.trust) seen.functions none)
-          ∙ ap (λ left. note_fault bytes left (is_some seen.trust) seen.functions) (sym (headers_left-next bytes index lt))
+          ∙ ap (λ left. note_fault bytes left (is_some seen.trust) seen.functions)
+          (sym (headers_left-next bytes index lt))
           ∙ so_far.fault;
       seen_is =
           ap (λ a. see_all bytes a (notes_of bytes hs)) after_is
           ∙ sym (see_all-append bytes seen here (notes_of bytes hs))
-          ∙ ap (λ left. see_all bytes seen (notes_of bytes left)) (sym (headers_left-next bytes index lt))
+          ∙ ap (λ left. see_all bytes seen (notes_of bytes left))
+          (sym (headers_left-next bytes index lt))
           ∙ so_far.seen_is;
       records = records;
     }
 
-pub all_stop : (bytes : List ℕ) (index : ℕ) (seen : NotesSeen) (fault : ImageFault) → IsReadBefore bytes index seen → index < header_count bytes
-    → header_note_fault bytes (header_of bytes index) (is_some seen.trust) seen.functions ≡ Some fault
+pub all_stop : (bytes : List ℕ) (index : ℕ) (seen : NotesSeen) (fault : ImageFault)
+    → IsReadBefore bytes index seen → index < header_count bytes
+    → header_note_fault bytes (header_of bytes index) (is_some seen.trust) seen.functions
+    ≡ Some fault
     → note_fault bytes (headers bytes) false false ≡ Some fault
 all_stop bytes index seen fault so_far lt some =
     sym so_far.fault
-    ∙ ap (λ left. note_fault bytes left (is_some seen.trust) seen.functions) (headers_left-next bytes index lt)
-    ∙ fault_header_stops bytes (header_of bytes index) _ (is_some seen.trust) seen.functions fault some
+    ∙ ap (λ left. note_fault bytes left (is_some seen.trust) seen.functions)
+    (headers_left-next bytes index lt)
+    ∙ fault_header_stops bytes (header_of bytes index) _ (is_some seen.trust) seen.functions fault
+    some
 
-pub all_end : (bytes : List ℕ) (index : ℕ) (seen : NotesSeen) → IsReadBefore bytes index seen → header_count bytes ≤ index
-    → (note_fault bytes (headers bytes) false false ≡ None) × (seen ≡ see_all bytes nothing_seen (notes bytes)) × HasRecords bytes seen
+pub all_end : (bytes : List ℕ) (index : ℕ) (seen : NotesSeen) → IsReadBefore bytes index seen
+    → header_count bytes ≤ index
+    → (note_fault bytes (headers bytes) false false ≡ None)
+    × (seen ≡ see_all bytes nothing_seen (notes bytes)) × HasRecords bytes seen
 unfolding note_fault see_all
 all_end bytes index seen so_far past = (
-  sym so_far.fault ∙ ap (λ left. note_fault bytes left (is_some seen.trust) seen.functions) (headers_left-none bytes index past),
-  ap (λ left. see_all bytes seen (notes_of bytes left)) (sym (headers_left-none bytes index past)) ∙ so_far.seen_is,
+  sym so_far.fault ∙ ap (λ left. note_fault bytes left (is_some seen.trust) seen.functions)
+      (headers_left-none bytes index past),
+  ap (λ left. see_all bytes seen (notes_of bytes left)) (sym (headers_left-none bytes index past))
+      ∙ so_far.seen_is,
   so_far.records,
 )

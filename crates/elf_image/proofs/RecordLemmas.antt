@@ -1,20 +1,28 @@
 -- One record after another.
-use Rattle.std.proofs.Common.{◌≡◌, ℕ, suc, ◌+◌, ◌-◌, ◌*◌, ◌<◌, ◌≤◌, List, [], ◌∷◌, Some, None, true, false, not, ◌||◌, ◌&&◌, refl, ◌∙◌, ap, arith}
+use Rattle.std.proofs.Common.{◌≡◌, ℕ, suc, ◌+◌, ◌-◌, ◌*◌, ◌<◌, ◌≤◌, List, [], ◌∷◌, Some, None, Bool}
+use Rattle.std.proofs.Common.{true, false, cond, not, ◌||◌, ◌&&◌, refl, ◌∙◌, ap, arith}
 use Rattle.std.specs.List.{list_any}
 use Rattle.erim_defs.specs.declared.segment.Segment.{Segment}
-use Rattle.erim_defs.specs.declared.fault.ImageFault.TheVariants.{BadRecord, TextNotExec, DataRange, EntryNotTrusted}
-use Rattle.erim_defs.specs.Image.{Record, data_fault, entry_fault, holds_address, is_entry_record, is_placed_data, is_record, is_text, overlaps, record_at, record_fault, records_from, text_fault}
+use Rattle.erim_defs.specs.declared.fault.ImageFault.TheVariants.{BadRecord, TextNotExec, DataRange}
+use Rattle.erim_defs.specs.declared.fault.ImageFault.TheVariants.{EntryNotTrusted}
+use Rattle.erim_defs.specs.Inspection.Image.{Record, data_fault, entry_fault, holds_address}
+use Rattle.erim_defs.specs.Inspection.Image.{is_entry_record, is_placed_data, is_record, is_text}
+use Rattle.erim_defs.specs.Inspection.Image.{overlaps, record_at, record_fault, records_from}
+use Rattle.erim_defs.specs.Inspection.Image.{text_fault}
 use Rattle.elf_image.specs.declared.pages.Purpose.TheVariants.{Text}
 use Rattle.elf_image.specs.declared.records.RecordTable.{RecordTable}
-use Rattle.elf_image.specs.Records.{is_in_text, is_lying, record_of, records_left, seen_before, table_records}
+use Rattle.elf_image.specs.Records.{is_in_text, is_lying, record_of, records_left, seen_before}
+use Rattle.elf_image.specs.Records.{table_records}
 
 -- a number of records that isn't 0
-from_more : (bytes : List ℕ) (place n m : ℕ) → n ≡ suc m → records_from bytes place n ≡ record_at bytes place ∷ records_from bytes (place + 24) m
+from_more : (bytes : List ℕ) (place n m : ℕ) → n ≡ suc m
+    → records_from bytes place n ≡ record_at bytes place ∷ records_from bytes (place + 24) m
 unfolding records_from
 from_more bytes place n m e = rw e refl
 
 -- all are left at first
-pub records_left-all : (bytes : List ℕ) (table : RecordTable) → records_left bytes table 0 ≡ table_records bytes table
+pub records_left-all : (bytes : List ℕ) (table : RecordTable)
+    → records_left bytes table 0 ≡ table_records bytes table
 unfolding records_left
 records_left-all bytes table =
     let place : table.place + 24 * 0 ≡ table.place = omega arith in
@@ -22,7 +30,9 @@ records_left-all bytes table =
     rw (place, count) refl
 
 -- the next one
-pub records_left-next : (bytes : List ℕ) (table : RecordTable) (index : ℕ) → index < table.count → records_left bytes table index ≡ record_of bytes table index ∷ records_left bytes table (index + 1)
+pub records_left-next : (bytes : List ℕ) (table : RecordTable) (index : ℕ) → index < table.count
+    → records_left bytes table index
+    ≡ record_of bytes table index ∷ records_left bytes table (index + 1)
 unfolding records_left record_of
 records_left-next bytes table index h =
     let count : table.count - index ≡ suc (table.count - (index + 1)) = omega arith in
@@ -30,40 +40,63 @@ records_left-next bytes table index h =
     rw place (from_more bytes (table.place + 24 * index) _ _ count)
 
 -- none at last
-pub records_left-none : (bytes : List ℕ) (table : RecordTable) (index : ℕ) → table.count ≤ index → records_left bytes table index ≡ []
+pub records_left-none : (bytes : List ℕ) (table : RecordTable) (index : ℕ) → table.count ≤ index
+    → records_left bytes table index ≡ []
 unfolding records_left records_from
 records_left-none bytes table index h =
     let count : table.count - index ≡ 0 = omega arith in
     rw count refl
 
+-- a test that is asked where another holds fails, or passes
+failing_if : (a b : Bool) → (a && not b) ≡ true → (a ≡ true) × (b ≡ false)
+failing_if true true h = absurd cc
+failing_if true false h = (refl, refl)
+failing_if false b h = absurd cc
+
+passing_if : (a b : Bool) → (a && not b) ≡ false → cond a b true ≡ true
+passing_if true true h = refl
+passing_if true false h = absurd cc
+passing_if false b h = refl
+
 -- ---- records alone
 
-pub record_begins : (bytes : List ℕ) (table : RecordTable) → record_fault 0 (seen_before bytes table 0) (records_left bytes table 0) ≡ record_fault 0 [] (table_records bytes table)
+pub record_begins : (bytes : List ℕ) (table : RecordTable)
+    → record_fault 0 (seen_before bytes table 0) (records_left bytes table 0)
+    ≡ record_fault 0 [] (table_records bytes table)
 unfolding seen_before
 record_begins bytes table = ap (record_fault 0 []) (records_left-all bytes table)
 
-pub record_stops : (bytes : List ℕ) (table : RecordTable) (index : ℕ) → index < table.count → is_record (seen_before bytes table index) (record_of bytes table index) ≡ false
-    → record_fault index (seen_before bytes table index) (records_left bytes table index) ≡ Some (BadRecord index)
+pub record_stops : (bytes : List ℕ) (table : RecordTable) (index : ℕ) → index < table.count
+    → is_record (seen_before bytes table index) (record_of bytes table index) ≡ false
+    → record_fault index (seen_before bytes table index) (records_left bytes table index)
+    ≡ Some (BadRecord index)
 unfolding record_fault
 record_stops bytes table index h test = rw (records_left-next bytes table index h) (rw test refl)
 
-pub record_goes_on : (bytes : List ℕ) (table : RecordTable) (index : ℕ) → index < table.count → is_record (seen_before bytes table index) (record_of bytes table index) ≡ true
-    → record_fault index (seen_before bytes table index) (records_left bytes table index) ≡ record_fault (index + 1) (seen_before bytes table (index + 1)) (records_left bytes table (index + 1))
+pub record_goes_on : (bytes : List ℕ) (table : RecordTable) (index : ℕ) → index < table.count
+    → is_record (seen_before bytes table index) (record_of bytes table index) ≡ true
+    → record_fault index (seen_before bytes table index) (records_left bytes table index)
+    ≡ record_fault (index + 1) (seen_before bytes table (index + 1))
+    (records_left bytes table (index + 1))
 unfolding record_fault seen_before
 record_goes_on bytes table index h test =
     let more : index + 1 ≡ suc index = omega arith in
     rw (records_left-next bytes table index h) (rw test (rw more refl))
 
-pub record_ends : (bytes : List ℕ) (table : RecordTable) (index : ℕ) → table.count ≤ index → record_fault index (seen_before bytes table index) (records_left bytes table index) ≡ None
+pub record_ends : (bytes : List ℕ) (table : RecordTable) (index : ℕ) → table.count ≤ index
+    → record_fault index (seen_before bytes table index) (records_left bytes table index) ≡ None
 unfolding record_fault
 record_ends bytes table index h = rw (records_left-none bytes table index h) refl
 
-pub overlaps_none : (r : Record) (bytes : List ℕ) (table : RecordTable) → list_any (overlaps r) (seen_before bytes table 0) ≡ false
+pub overlaps_none : (r : Record) (bytes : List ℕ) (table : RecordTable)
+    → list_any (overlaps r) (seen_before bytes table 0) ≡ false
 unfolding seen_before
 overlaps_none r bytes table = refl
 
 pub overlaps_more : (r : Record) (bytes : List ℕ) (table : RecordTable) (n : ℕ)
-    → list_any (overlaps r) (seen_before bytes table (n + 1)) ≡ (overlaps r (record_of bytes table n) || list_any (overlaps r) (seen_before bytes table n))
+    → list_any (overlaps r) (seen_before bytes table (n + 1))
+    ≡ (overlaps r (record_of bytes table n)
+    || list_any (overlaps r) (seen_before bytes table n))
 unfolding seen_before
 overlaps_more r bytes table n =
     let more : n + 1 ≡ suc n = omega arith in
@@ -71,79 +104,136 @@ overlaps_more r bytes table n =
 
 -- ---- trusted text
 
-pub text_begins : (ss : List Segment) (bytes : List ℕ) (table : RecordTable) → text_fault 0 ss (records_left bytes table 0) ≡ text_fault 0 ss (table_records bytes table)
-text_begins ss bytes table = ap (text_fault 0 ss) (records_left-all bytes table)
+pub text_begins : (ss : List Segment) (bytes : List ℕ) (table : RecordTable)
+    → text_fault 0 ss (seen_before bytes table 0) (records_left bytes table 0)
+    ≡ text_fault 0 ss [] (table_records bytes table)
+unfolding seen_before
+text_begins ss bytes table = ap (text_fault 0 ss []) (records_left-all bytes table)
 
-pub text_stops : (ss : List Segment) (bytes : List ℕ) (table : RecordTable) (index : ℕ) → index < table.count
-    → (is_text (record_of bytes table index) && not (is_lying Text ss (record_of bytes table index))) ≡ true
-    → text_fault index ss (records_left bytes table index) ≡ Some (TextNotExec index)
+pub text_stops : (ss : List Segment) (bytes : List ℕ) (table : RecordTable) (index : ℕ)
+    → index < table.count
+    → (is_text (record_of bytes table index)
+    && not (is_lying Text ss (record_of bytes table index))) ≡ true
+    → text_fault index ss (seen_before bytes table index) (records_left bytes table index)
+    ≡ Some (TextNotExec index)
 unfolding text_fault is_lying
-text_stops ss bytes table index h test = rw (records_left-next bytes table index h) (rw test refl)
+text_stops ss bytes table index h test =
+    let failing = failing_if (is_text (record_of bytes table index)) _ test in
+    rw (records_left-next bytes table index h) (rw (failing.0, failing.1) refl)
 
-pub text_goes_on : (ss : List Segment) (bytes : List ℕ) (table : RecordTable) (index : ℕ) → index < table.count
-    → (is_text (record_of bytes table index) && not (is_lying Text ss (record_of bytes table index))) ≡ false
-    → text_fault index ss (records_left bytes table index) ≡ text_fault (index + 1) ss (records_left bytes table (index + 1))
-unfolding text_fault is_lying
-text_goes_on ss bytes table index h test = rw (records_left-next bytes table index h) (rw test refl)
+pub text_goes_on : (ss : List Segment) (bytes : List ℕ) (table : RecordTable) (index : ℕ)
+    → index < table.count
+    → (is_text (record_of bytes table index)
+    && not (is_lying Text ss (record_of bytes table index))) ≡ false
+    → text_fault index ss (seen_before bytes table index) (records_left bytes table index)
+    ≡ text_fault (index + 1) ss (seen_before bytes table (index + 1))
+    (records_left bytes table (index + 1))
+unfolding text_fault is_lying seen_before
+text_goes_on ss bytes table index h test =
+    let more : index + 1 ≡ suc index = omega arith in
+    rw (records_left-next bytes table index h)
+    (rw (passing_if (is_text (record_of bytes table index)) _ test) (rw more refl))
 
-pub text_ends : (ss : List Segment) (bytes : List ℕ) (table : RecordTable) (index : ℕ) → table.count ≤ index → text_fault index ss (records_left bytes table index) ≡ None
+pub text_ends : (ss : List Segment) (bytes : List ℕ) (table : RecordTable) (index : ℕ)
+    → table.count ≤ index → text_fault index ss (seen_before bytes table index)
+    (records_left bytes table index) ≡ None
 unfolding text_fault
 text_ends ss bytes table index h = rw (records_left-none bytes table index h) refl
 
 -- ---- trusted data and heaps
 
-pub data_begins : (ss : List Segment) (bytes : List ℕ) (table : RecordTable) → data_fault 0 ss (records_left bytes table 0) ≡ data_fault 0 ss (table_records bytes table)
-data_begins ss bytes table = ap (data_fault 0 ss) (records_left-all bytes table)
+pub data_begins : (ss : List Segment) (bytes : List ℕ) (table : RecordTable)
+    → data_fault 0 ss (seen_before bytes table 0) (records_left bytes table 0)
+    ≡ data_fault 0 ss [] (table_records bytes table)
+unfolding seen_before
+data_begins ss bytes table = ap (data_fault 0 ss []) (records_left-all bytes table)
 
-pub data_stops : (ss : List Segment) (bytes : List ℕ) (table : RecordTable) (index : ℕ) → index < table.count → is_placed_data ss (record_of bytes table index) ≡ false
-    → data_fault index ss (records_left bytes table index) ≡ Some (DataRange index)
+pub data_stops : (ss : List Segment) (bytes : List ℕ) (table : RecordTable) (index : ℕ)
+    → index < table.count → is_placed_data ss (record_of bytes table index) ≡ false
+    → data_fault index ss (seen_before bytes table index) (records_left bytes table index)
+    ≡ Some (DataRange index)
 unfolding data_fault
 data_stops ss bytes table index h test = rw (records_left-next bytes table index h) (rw test refl)
 
-pub data_goes_on : (ss : List Segment) (bytes : List ℕ) (table : RecordTable) (index : ℕ) → index < table.count → is_placed_data ss (record_of bytes table index) ≡ true
-    → data_fault index ss (records_left bytes table index) ≡ data_fault (index + 1) ss (records_left bytes table (index + 1))
-unfolding data_fault
-data_goes_on ss bytes table index h test = rw (records_left-next bytes table index h) (rw test refl)
+pub data_goes_on : (ss : List Segment) (bytes : List ℕ) (table : RecordTable) (index : ℕ)
+    → index < table.count → is_placed_data ss (record_of bytes table index) ≡ true
+    → data_fault index ss (seen_before bytes table index) (records_left bytes table index)
+    ≡ data_fault (index + 1) ss (seen_before bytes table (index + 1))
+    (records_left bytes table (index + 1))
+unfolding data_fault seen_before
+data_goes_on ss bytes table index h test =
+    let more : index + 1 ≡ suc index = omega arith in
+    rw (records_left-next bytes table index h) (rw test (rw more refl))
 
-pub data_ends : (ss : List Segment) (bytes : List ℕ) (table : RecordTable) (index : ℕ) → table.count ≤ index → data_fault index ss (records_left bytes table index) ≡ None
+pub data_ends : (ss : List Segment) (bytes : List ℕ) (table : RecordTable) (index : ℕ)
+    → table.count ≤ index → data_fault index ss (seen_before bytes table index)
+    (records_left bytes table index) ≡ None
 unfolding data_fault
 data_ends ss bytes table index h = rw (records_left-none bytes table index h) refl
 
 -- ---- entries
 
-pub entry_begins : (all : List Record) (bytes : List ℕ) (table : RecordTable) → entry_fault 0 all (records_left bytes table 0) ≡ entry_fault 0 all (table_records bytes table)
-entry_begins all bytes table = ap (entry_fault 0 all) (records_left-all bytes table)
+pub entry_begins : (all : List Record) (bytes : List ℕ) (table : RecordTable)
+    → entry_fault 0 all (seen_before bytes table 0) (records_left bytes table 0)
+    ≡ entry_fault 0 all [] (table_records bytes table)
+unfolding seen_before
+entry_begins all bytes table = ap (entry_fault 0 all []) (records_left-all bytes table)
 
-pub entry_stops : (all : List Record) (bytes : List ℕ) (table : RecordTable) (index : ℕ) → index < table.count
-    → (is_entry_record (record_of bytes table index) && not (is_in_text (record_of bytes table index).start all)) ≡ true
-    → entry_fault index all (records_left bytes table index) ≡ Some (EntryNotTrusted index)
+pub entry_stops : (all : List Record) (bytes : List ℕ) (table : RecordTable) (index : ℕ)
+    → index < table.count
+    → (is_entry_record (record_of bytes table index)
+    && not (is_in_text (record_of bytes table index).start all)) ≡ true
+    → entry_fault index all (seen_before bytes table index) (records_left bytes table index)
+    ≡ Some (EntryNotTrusted index)
 unfolding entry_fault is_in_text
-entry_stops all bytes table index h test = rw (records_left-next bytes table index h) (rw test refl)
+entry_stops all bytes table index h test =
+    let failing = failing_if (is_entry_record (record_of bytes table index)) _ test in
+    rw (records_left-next bytes table index h) (rw (failing.0, failing.1) refl)
 
-pub entry_goes_on : (all : List Record) (bytes : List ℕ) (table : RecordTable) (index : ℕ) → index < table.count
-    → (is_entry_record (record_of bytes table index) && not (is_in_text (record_of bytes table index).start all)) ≡ false
-    → entry_fault index all (records_left bytes table index) ≡ entry_fault (index + 1) all (records_left bytes table (index + 1))
-unfolding entry_fault is_in_text
-entry_goes_on all bytes table index h test = rw (records_left-next bytes table index h) (rw test refl)
+pub entry_goes_on : (all : List Record) (bytes : List ℕ) (table : RecordTable) (index : ℕ)
+    → index < table.count
+    → (is_entry_record (record_of bytes table index)
+    && not (is_in_text (record_of bytes table index).start all)) ≡ false
+    → entry_fault index all (seen_before bytes table index) (records_left bytes table index)
+    ≡ entry_fault (index + 1) all (seen_before bytes table (index + 1))
+    (records_left bytes table (index + 1))
+unfolding entry_fault is_in_text seen_before
+entry_goes_on all bytes table index h test =
+    let more : index + 1 ≡ suc index = omega arith in
+    rw (records_left-next bytes table index h)
+    (rw (passing_if (is_entry_record (record_of bytes table index)) _ test) (rw more refl))
 
-pub entry_ends : (all : List Record) (bytes : List ℕ) (table : RecordTable) (index : ℕ) → table.count ≤ index → entry_fault index all (records_left bytes table index) ≡ None
+pub entry_ends : (all : List Record) (bytes : List ℕ) (table : RecordTable) (index : ℕ)
+    → table.count ≤ index → entry_fault index all (seen_before bytes table index)
+    (records_left bytes table index) ≡ None
 unfolding entry_fault
 entry_ends all bytes table index h = rw (records_left-none bytes table index h) refl
 
-pub in_text_begins : (a : ℕ) (bytes : List ℕ) (table : RecordTable) → is_in_text a (records_left bytes table 0) ≡ is_in_text a (table_records bytes table)
+pub in_text_begins : (a : ℕ) (bytes : List ℕ) (table : RecordTable)
+    → is_in_text a (records_left bytes table 0) ≡ is_in_text a (table_records bytes table)
 in_text_begins a bytes table = ap (is_in_text a) (records_left-all bytes table)
 
-in_text_next : (a : ℕ) (r : Record) (rs : List Record) → is_in_text a (r ∷ rs) ≡ (holds_address a r || is_in_text a rs)
+in_text_next : (a : ℕ) (r : Record) (rs : List Record)
+    → is_in_text a (r ∷ rs) ≡ (holds_address a r || is_in_text a rs)
 unfolding is_in_text
 in_text_next a r rs = refl
 
-pub in_text_stops : (a : ℕ) (bytes : List ℕ) (table : RecordTable) (index : ℕ) → index < table.count → holds_address a (record_of bytes table index) ≡ true → is_in_text a (records_left bytes table index) ≡ true
-in_text_stops a bytes table index h test = rw (records_left-next bytes table index h) (in_text_next a _ _ ∙ ap (λ b. b || is_in_text a (records_left bytes table (index + 1))) test)
+pub in_text_stops : (a : ℕ) (bytes : List ℕ) (table : RecordTable) (index : ℕ) → index < table.count
+    → holds_address a (record_of bytes table index) ≡ true
+    → is_in_text a (records_left bytes table index) ≡ true
+in_text_stops a bytes table index h test =
+    rw (records_left-next bytes table index h) (in_text_next a _ _
+    ∙ ap (λ b. b || is_in_text a (records_left bytes table (index + 1))) test)
 
-pub in_text_goes_on : (a : ℕ) (bytes : List ℕ) (table : RecordTable) (index : ℕ) → index < table.count → holds_address a (record_of bytes table index) ≡ false
-    → is_in_text a (records_left bytes table index) ≡ is_in_text a (records_left bytes table (index + 1))
-in_text_goes_on a bytes table index h test = rw (records_left-next bytes table index h) (in_text_next a _ _ ∙ ap (λ b. b || is_in_text a (records_left bytes table (index + 1))) test)
+pub in_text_goes_on : (a : ℕ) (bytes : List ℕ) (table : RecordTable) (index : ℕ)
+    → index < table.count → holds_address a (record_of bytes table index) ≡ false
+    → is_in_text a (records_left bytes table index)
+    ≡ is_in_text a (records_left bytes table (index + 1))
+in_text_goes_on a bytes table index h test =
+    rw (records_left-next bytes table index h) (in_text_next a _ _
+    ∙ ap (λ b. b || is_in_text a (records_left bytes table (index + 1))) test)
 
-pub in_text_ends : (a : ℕ) (bytes : List ℕ) (table : RecordTable) (index : ℕ) → table.count ≤ index → is_in_text a (records_left bytes table index) ≡ false
+pub in_text_ends : (a : ℕ) (bytes : List ℕ) (table : RecordTable) (index : ℕ) → table.count ≤ index
+    → is_in_text a (records_left bytes table index) ≡ false
 unfolding is_in_text
 in_text_ends a bytes table index h = rw (records_left-none bytes table index h) refl

@@ -1,11 +1,13 @@
 -- What checking an image leaves known, and what an image keeps of the bytes that it was read from.
 use Rattle.std.specs.Prelude.{◌≡◌, ℕ, ◌==◌, Result, MatchResult, Some, None, List}
-use Rattle.erim_defs.specs.Parts.{AreBytes}
+use Rattle.erim_defs.specs.Encoding.Parts.{AreBytes}
 use Rattle.erim_defs.specs.declared.segment.Segment.{Segment}
 use Rattle.erim_defs.specs.declared.fault.ImageFault.{ImageFault}
 use Rattle.erim_defs.specs.declared.trust.Span.{Span}
-use Rattle.erim_defs.specs.Trust.{TrustValue}
-use Rattle.erim_defs.specs.Image.{IsAccepted, Record, entry_point, first_fault, image_data, image_heaps, image_trust, later_fault, notes, segments, spans_of, trust_fault}
+use Rattle.erim_defs.specs.Inspection.Trust.{TrustValue}
+use Rattle.erim_defs.specs.Inspection.Image.{IsAccepted, Record, entry_point, first_fault}
+use Rattle.erim_defs.specs.Inspection.Image.{image_data, image_heaps, image_trust, later_fault}
+use Rattle.erim_defs.specs.Inspection.Image.{notes, segments, spans_of, trust_fault}
 use Rattle.elf_image.specs.declared.notes.NotesSeen.{NotesSeen}
 use Rattle.elf_image.specs.Notes.{HasRecords, nothing_seen, see_all}
 
@@ -16,22 +18,28 @@ pub record IsSeen (bytes : List ℕ) (seen : NotesSeen) : Type 0 where
 
 -- the rows of notes and records find no fault, and tell the notes, or they find one
 abbrev pub ChecksTrust : List ℕ → Result NotesSeen ImageFault → Type 0
-ChecksTrust bytes result = MatchResult result (λ seen. (trust_fault bytes ≡ None) × IsSeen bytes seen) (λ fault. trust_fault bytes ≡ Some fault)
+ChecksTrust bytes result =
+    MatchResult result (λ seen. (trust_fault bytes ≡ None)
+    × IsSeen bytes seen) (λ fault. trust_fault bytes ≡ Some fault)
 
 -- the same of all rows behind the first
 abbrev pub ChecksLater : List ℕ → Result NotesSeen ImageFault → Type 0
-ChecksLater bytes result = MatchResult result (λ seen. (later_fault bytes ≡ None) × IsSeen bytes seen) (λ fault. later_fault bytes ≡ Some fault)
+ChecksLater bytes result =
+    MatchResult result (λ seen. (later_fault bytes ≡ None)
+    × IsSeen bytes seen) (λ fault. later_fault bytes ≡ Some fault)
 
 -- and of all
 abbrev pub Checks : List ℕ → Result NotesSeen ImageFault → Type 0
-Checks bytes result = MatchResult result (λ seen. IsAccepted bytes × IsSeen bytes seen) (λ fault. first_fault bytes ≡ Some fault)
+Checks bytes result = MatchResult result (λ seen. IsAccepted bytes
+    × IsSeen bytes seen) (λ fault. first_fault bytes ≡ Some fault)
 
 -- the ranges of the records of a kind
 unfoldable pub spans_in : ℕ → List Record → List Span
 spans_in kind rs = spans_of (λ r. r.kind == kind) rs
 
 -- the bytes are accepted, and the rest is what they tell
-pub record IsRead (bytes : List ℕ) (list : List Segment) (trust : TrustValue) (trusted heaps : List Span) (entry : ℕ) : Type 0 where
+pub record IsRead (bytes : List ℕ) (list : List Segment) (trust : TrustValue)
+    (trusted heaps : List Span) (entry : ℕ) : Type 0 where
   pub accepted : IsAccepted bytes
   pub octets : AreBytes bytes
   pub list_is : list ≡ segments bytes

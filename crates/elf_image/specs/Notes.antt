@@ -1,8 +1,15 @@
 -- What reading the notes of an image leaves known.
-use Rattle.std.specs.Prelude.{◌≡◌, ℕ, ◌+◌, ◌*◌, ◌<◌, ◌≤◌, ◌&&◌, ◌||◌, nat_le, not, Bool, true, false, Option, Some, None, is_some, IfSome, Result, MatchResult, List, [], ◌∷◌, length, if◌then◌else◌}
-use Rattle.erim_defs.specs.Code.{or_else}
+use Rattle.std.specs.Prelude.{◌≡◌, ℕ, ◌+◌, ◌*◌, ◌<◌, ◌≤◌, ◌&&◌, ◌||◌, nat_le, not, Bool, true}
+use Rattle.std.specs.Prelude.{false, Option, Some, None, is_some, IfSome, Result, MatchResult, List}
+use Rattle.std.specs.Prelude.{[], ◌∷◌, length, if◌then◌else◌}
+use Rattle.erim_defs.specs.Inspection.Code.{or_else}
 use Rattle.erim_defs.specs.declared.fault.ImageFault.{ImageFault}
-use Rattle.erim_defs.specs.Image.{Header, Note, Record, header_count, header_note_fault, header_notes, headers, is_functions, is_in_file, is_note_shaped, is_noted, is_trust, is_versioned, item_count, name_size, note_at, note_end, note_fault, note_fault_between, notes, notes_between, notes_of, padded, records_from}
+use Rattle.erim_defs.specs.Inspection.Image.{Header, Note, Record, header_count, header_note_fault}
+use Rattle.erim_defs.specs.Inspection.Image.{header_notes, headers, is_functions, is_in_file}
+use Rattle.erim_defs.specs.Inspection.Image.{is_note_shaped, is_noted, is_trust, is_versioned}
+use Rattle.erim_defs.specs.Inspection.Image.{item_count, note_at, note_end, note_fault}
+use Rattle.erim_defs.specs.Inspection.Image.{note_fault_between, notes, notes_between, notes_of}
+use Rattle.erim_defs.specs.Inspection.Image.{records_from}
 use Rattle.elf_image.specs.declared.notes.NotesSeen.{NotesSeen}
 use Rattle.elf_image.specs.declared.records.RecordTable.{RecordTable}
 use Rattle.elf_image.specs.Table.{header_of, headers_left}
@@ -12,10 +19,9 @@ pub record HasNote (bytes : List ℕ) (place : ℕ) : Type 0 where
   pub header : place + 12 ≤ length bytes
   pub whole : note_end bytes place ≤ length bytes
 
--- a version and a count lie in its desc
-pub record HasItems (bytes : List ℕ) (place : ℕ) : Type 0 where
-  pub header : place + 12 ≤ length bytes
-  pub items : place + 12 + padded (name_size bytes place) + 8 ≤ length bytes
+-- a note's desc lies in the bytes, unless it has none
+abbrev pub HasDesc : List ℕ → Note → Type 0
+HasDesc bytes note = 0 < note.size → note.desc + note.size ≤ length bytes
 
 -- the records of a table lie in the bytes
 pub record HasTableOf (bytes : List ℕ) (table : RecordTable) : Type 0 where
@@ -28,8 +34,10 @@ HasRecords bytes seen = IfSome seen.trust (HasTableOf bytes)
 -- the note at a place is whole and shaped, and no second one of its kind
 unfoldable pub is_sound : List ℕ → ℕ → ℕ → Bool → Bool → Bool
 is_sound bytes place end trust functions =
-    nat_le (place + 12) end && (nat_le (note_end bytes place) end && (is_note_shaped bytes (note_at bytes place)
-    && (not (trust && is_trust (note_at bytes place)) && not (functions && is_functions (note_at bytes place)))))
+    nat_le (place + 12) end && (nat_le (note_end bytes place) end
+    && (is_note_shaped bytes (note_at bytes place)
+    && (not (trust && is_trust (note_at bytes place))
+    && not (functions && is_functions (note_at bytes place)))))
 
 -- the records that a trust note tells
 abbrev pub table_of : List ℕ → Note → RecordTable
@@ -59,37 +67,48 @@ seen_records bytes (Some table) = records_from bytes table.place table.count
 abbrev pub Reads : List ℕ → ℕ → ℕ → NotesSeen → Result NotesSeen ImageFault → Type 0
 Reads bytes size start before result =
     MatchResult result
-    (λ after. (note_fault_between bytes size start (start + size) (is_some before.trust) before.functions ≡ None)
-    × (after ≡ see_all bytes before (notes_between bytes size start (start + size))) × HasRecords bytes after)
-    (λ fault. note_fault_between bytes size start (start + size) (is_some before.trust) before.functions ≡ Some fault)
+    (λ after. (note_fault_between bytes size start (start + size) (is_some before.trust)
+    before.functions ≡ None)
+    × (after ≡ see_all bytes before (notes_between bytes size start (start + size)))
+    × HasRecords bytes after)
+    (λ fault. note_fault_between bytes size start (start + size) (is_some before.trust)
+    before.functions ≡ Some fault)
 
 -- the same of the notes of one header
 abbrev pub ReadsHeader : List ℕ → Header → NotesSeen → Result NotesSeen ImageFault → Type 0
 ReadsHeader bytes h before result =
     MatchResult result
-    (λ after. (header_note_fault bytes h (is_some before.trust) before.functions ≡ None) × (after ≡ see_all bytes before (header_notes bytes h)) × HasRecords bytes after)
+    (λ after. (header_note_fault bytes h (is_some before.trust) before.functions ≡ None)
+    × (after ≡ see_all bytes before (header_notes bytes h)) × HasRecords bytes after)
     (λ fault. header_note_fault bytes h (is_some before.trust) before.functions ≡ Some fault)
 
 -- what is left from a place on gives what all of them give
-pub record IsReadTo (bytes : List ℕ) (end left place : ℕ) (seen : NotesSeen) (size start : ℕ) (before : NotesSeen) : Type 0 where
-  pub fault : note_fault_between bytes left place end (is_some seen.trust) seen.functions ≡ note_fault_between bytes size start end (is_some before.trust) before.functions
-  pub seen_is : see_all bytes seen (notes_between bytes left place end) ≡ see_all bytes before (notes_between bytes size start end)
+pub record IsReadTo (bytes : List ℕ) (end left place : ℕ) (seen : NotesSeen) (size start : ℕ)
+    (before : NotesSeen) : Type 0 where
+  pub fault : note_fault_between bytes left place end (is_some seen.trust) seen.functions
+      ≡ note_fault_between bytes size start end (is_some before.trust) before.functions
+  pub seen_is : see_all bytes seen (notes_between bytes left place end)
+      ≡ see_all bytes before (notes_between bytes size start end)
   pub records : HasRecords bytes seen
   pub place_le : place ≤ end
 
 -- the notes of each header lie in the bytes
 abbrev pub HasNotes : List ℕ → Type 0
-HasNotes bytes = (index : ℕ) → index < header_count bytes → is_noted (header_of bytes index) ≡ true → is_in_file (length bytes) (header_of bytes index).segment ≡ true
+HasNotes bytes = (index : ℕ) → index < header_count bytes → is_noted (header_of bytes index) ≡ true
+    → is_in_file (length bytes) (header_of bytes index).segment ≡ true
 
 -- all notes are read: what is known then, or their first fault
 abbrev pub ReadsAll : List ℕ → Result NotesSeen ImageFault → Type 0
 ReadsAll bytes result =
     MatchResult result
-    (λ after. (note_fault bytes (headers bytes) false false ≡ None) × (after ≡ see_all bytes nothing_seen (notes bytes)) × HasRecords bytes after)
+    (λ after. (note_fault bytes (headers bytes) false false ≡ None)
+    × (after ≡ see_all bytes nothing_seen (notes bytes)) × HasRecords bytes after)
     (λ fault. note_fault bytes (headers bytes) false false ≡ Some fault)
 
 -- the notes of the headers before an index are read
 pub record IsReadBefore (bytes : List ℕ) (index : ℕ) (seen : NotesSeen) : Type 0 where
-  pub fault : note_fault bytes (headers_left bytes index) (is_some seen.trust) seen.functions ≡ note_fault bytes (headers bytes) false false
-  pub seen_is : see_all bytes seen (notes_of bytes (headers_left bytes index)) ≡ see_all bytes nothing_seen (notes bytes)
+  pub fault : note_fault bytes (headers_left bytes index) (is_some seen.trust) seen.functions
+      ≡ note_fault bytes (headers bytes) false false
+  pub seen_is : see_all bytes seen (notes_of bytes (headers_left bytes index))
+      ≡ see_all bytes nothing_seen (notes bytes)
   pub records : HasRecords bytes seen

@@ -1,10 +1,13 @@
 -- The records of a table, and the pages that segments hold.
 use Rattle.std.specs.Prelude.{ℕ, ◌+◌, ◌-◌, ◌*◌, Bool, Option, List, [], ◌∷◌, zero, suc}
 use Rattle.std.specs.List.{list_any}
-use Rattle.erim_defs.specs.Code.{or_else}
+use Rattle.erim_defs.specs.Inspection.Code.{or_else}
 use Rattle.erim_defs.specs.declared.fault.ImageFault.{ImageFault}
 use Rattle.erim_defs.specs.declared.segment.Segment.{Segment}
-use Rattle.erim_defs.specs.Image.{Record, all_pages, data_fault, entry_fault, holds_address, holds_data, holds_heap, holds_text, is_executable, is_page_of, lies_in, record_at, record_fault, records_from, segments, text_fault}
+use Rattle.erim_defs.specs.Inspection.Image.{Record, all_pages, data_fault, entry_fault}
+use Rattle.erim_defs.specs.Inspection.Image.{holds_address, holds_data, holds_heap, holds_text}
+use Rattle.erim_defs.specs.Inspection.Image.{is_executable, is_page_of, lies_in, record_at}
+use Rattle.erim_defs.specs.Inspection.Image.{record_fault, records_from, segments, text_fault}
 use Rattle.elf_image.specs.declared.pages.Purpose.{Purpose}
 use Rattle.elf_image.specs.declared.pages.Purpose.TheVariants.{Execution, Text, Data, Heap}
 use Rattle.elf_image.specs.declared.records.RecordTable.{RecordTable}
@@ -33,9 +36,9 @@ is_in_text a rs = list_any (holds_address a) rs
 unfoldable pub records_fault : List ℕ → RecordTable → Option ImageFault
 records_fault bytes table =
     or_else (record_fault 0 [] (table_records bytes table))
-    (or_else (text_fault 0 (segments bytes) (table_records bytes table))
-    (or_else (data_fault 0 (segments bytes) (table_records bytes table))
-    (entry_fault 0 (table_records bytes table) (table_records bytes table))))
+    (or_else (text_fault 0 (segments bytes) [] (table_records bytes table))
+    (or_else (data_fault 0 (segments bytes) [] (table_records bytes table))
+    (entry_fault 0 (table_records bytes table) [] (table_records bytes table))))
 
 -- ---- pages
 

@@ -1,44 +1,19 @@
 //! A program header (ELF-64, "Program header").
 
 ghost use Rattle.std.specs.Prelude.{◌≡◌, ◌≤◌, ◌<◌, ◌==◌, ◌&&◌, not};
-ghost use Rattle.erim_defs.specs.Image.{header_count, is_dynamic, is_loadable, is_noted, is_passed_over, is_ranged, pages_of, table_place};
+ghost use Rattle.erim_defs.specs.Inspection.Image.{header_count, is_dynamic, is_loadable, is_noted};
+ghost use Rattle.erim_defs.specs.Inspection.Image.{is_passed_over, is_ranged, pages_of};
+ghost use Rattle.erim_defs.specs.Inspection.Image.{table_place};
 ghost use Rattle.elf_image.specs.Table.{HasTable, header_of};
 
 use crate::field::{table_place, u32_at, u64_at};
-use crate::segment::{is_in_file, is_in_user, page_count};
 use erim_defs::Segment;
+use erim_defs::elf::{
+    P_ALIGN, P_FILESZ, P_FLAGS, P_MEMSZ, P_OFFSET, P_VADDR, PROGRAM_HEADER_SIZE, PT_DYNAMIC,
+    PT_INTERP, PT_LOAD, PT_NOTE, PT_TLS, WIDE_NOTE_ALIGNMENT,
+};
+use erim_defs::limits::MOST_PAGES;
 use std::marker::Model;
-
-pub(crate) const PROGRAM_HEADER_SIZE: usize = 56;
-
-// The places of the fields in a program header.
-const FLAGS: usize = 4;
-
-const OFFSET: usize = 8;
-
-const ADDRESS: usize = 16;
-
-const FILE_SIZE: usize = 32;
-
-const MEMORY_SIZE: usize = 40;
-
-const ALIGNMENT: usize = 48;
-
-// Kinds of headers.
-const PT_LOAD: u32 = 1;
-
-const PT_DYNAMIC: u32 = 2;
-
-const PT_INTERP: u32 = 3;
-
-const PT_NOTE: u32 = 4;
-
-const PT_TLS: u32 = 7;
-
-// Notes of this alignment have another form, and are passed over.
-const WIDE_NOTES: u64 = 8;
-
-const MOST_PAGES: u64 = 4080;
 
 /// A program header.
 #[derive(Drop)]
@@ -49,11 +24,12 @@ pub(crate) struct Header {
 }
 
 impl Model for Header {
-    ghost use Rattle.erim_defs.specs.Image.{Header as HeaderValue};
+    ghost use Rattle.erim_defs.specs.Inspection.Image.{Header as HeaderValue};
 
     ghost Value = { HeaderValue };
 
-    ghost view = { λ header. record { kind = header.kind; align = header.align; segment = header.segment } };
+    ghost view = { λ header.
+        record { kind = header.kind; align = header.align; segment = header.segment } };
 }
 
 impl Header {
@@ -66,15 +42,15 @@ impl Header {
     {
         let place = table_place(bytes) as usize + PROGRAM_HEADER_SIZE * index as usize;
         let segment = Segment {
-            vaddr: u64_at(bytes, place + ADDRESS),
-            offset: u64_at(bytes, place + OFFSET),
-            filesz: u64_at(bytes, place + FILE_SIZE),
-            memsz: u64_at(bytes, place + MEMORY_SIZE),
-            flags: u32_at(bytes, place + FLAGS),
+            vaddr: u64_at(bytes, place + P_VADDR),
+            offset: u64_at(bytes, place + P_OFFSET),
+            filesz: u64_at(bytes, place + P_FILESZ),
+            memsz: u64_at(bytes, place + P_MEMSZ),
+            flags: u32_at(bytes, place + P_FLAGS),
         };
         Header {
             kind: u32_at(bytes, place),
-            align: u64_at(bytes, place + ALIGNMENT),
+            align: u64_at(bytes, place + P_ALIGN),
             segment,
         }
     }
@@ -104,7 +80,7 @@ impl Header {
     pub(crate) fn is_noted(&self) -> bool
         ensures { result ≡ is_noted self.now }
     {
-        self.kind == PT_NOTE && self.align != WIDE_NOTES
+        self.kind == PT_NOTE && self.align != WIDE_NOTE_ALIGNMENT
     }
 
     /// Does it lie where it may, where so many pages stand before it?
@@ -113,20 +89,20 @@ impl Header {
         ensures { result ≡ is_ranged file_length pages self.now }
     {
         if self.kind == PT_NOTE {
-            return is_in_file(&self.segment, file_length);
+            return self.segment.is_in_file(file_length);
         }
         !self.is_counted()
-            || is_in_file(&self.segment, file_length)
-                && is_in_user(&self.segment)
-                && page_count(&self.segment) <= MOST_PAGES - pages
+            || self.segment.is_in_file(file_length)
+                && self.segment.is_in_user()
+                && self.segment.page_count() <= MOST_PAGES - pages
     }
 
     /// 0 for what isn't a segment, else its pages.
-    pub(crate) fn pages(&self) -> u64
+    pub(crate) fn pages_of(&self) -> u64
         ensures { result ≡ pages_of self.now }
     {
         if self.is_counted() {
-            page_count(&self.segment)
+            self.segment.page_count()
         } else {
             0
         }

@@ -2,16 +2,17 @@
 
 ghost use Rattle.std.specs.Prelude.{◌≡◌, ◌≤◌, [], length};
 ghost use Rattle.std.specs.List.{list_any};
-ghost use Rattle.erim_defs.specs.Image.{header_count, headers, range_fault, segment_fault, shared_fault, shares_page, static_fault};
+ghost use Rattle.erim_defs.specs.Inspection.Image.{header_count, headers, range_fault};
+ghost use Rattle.erim_defs.specs.Inspection.Image.{segment_fault, shared_fault, shares_page};
+ghost use Rattle.erim_defs.specs.Inspection.Image.{static_fault};
 ghost use Rattle.elf_image.specs.Table.{HasTable, seen_segments};
 
 use crate::field::header_count;
 use crate::header::Header;
-use crate::segment::shares_page;
 use erim_defs::{ImageFault, Segment};
 
 /// The first fault of the program headers and segments.
-#[tactic(auto, unfolding(erim_defs::specs::Image::segment_fault))]
+#[tactic(auto, unfolding(erim_defs::specs::Inspection::Image::segment_fault))]
 pub(crate) fn segment_fault(bytes: &[u8]) -> Option<ImageFault>
     requires { HasTable bytes.now }
     ensures { result ≡ segment_fault bytes.now }
@@ -25,7 +26,7 @@ pub(crate) fn segment_fault(bytes: &[u8]) -> Option<ImageFault>
 #[tactic(auto, using(crate::proofs::TableLemmas::static_begins, crate::proofs::TableLemmas::static_stops, crate::proofs::TableLemmas::static_goes_on, crate::proofs::TableLemmas::static_ends))]
 fn static_fault(bytes: &[u8]) -> Option<ImageFault>
     requires { HasTable bytes.now }
-    ensures { result ≡ static_fault 0 (headers bytes.now) }
+    ensures { result ≡ static_fault 0 [] (headers bytes.now) }
 {
     for index in 0..header_count(bytes) {
         if Header::read(bytes, index).is_dynamic() {
@@ -36,10 +37,10 @@ fn static_fault(bytes: &[u8]) -> Option<ImageFault>
 }
 
 // The first segment or note that lies where it may not.
-#[tactic(auto, using(crate::proofs::TableLemmas::range_begins, crate::proofs::TableLemmas::range_stops, crate::proofs::TableLemmas::range_goes_on, crate::proofs::TableLemmas::ranged_few, crate::proofs::TableLemmas::range_ends))]
+#[tactic(auto, using(crate::proofs::TableLemmas::range_begins, crate::proofs::TableLemmas::range_stops, crate::proofs::TableLemmas::range_goes_on, crate::proofs::TableLemmas::range_pages, crate::proofs::TableLemmas::range_none, erim_defs::proofs::PlaceLemmas::ranged_few, crate::proofs::TableLemmas::range_ends))]
 fn range_fault(bytes: &[u8]) -> Option<ImageFault>
     requires { HasTable bytes.now }
-    ensures { result ≡ range_fault (length bytes.now) 0 0 (headers bytes.now) }
+    ensures { result ≡ range_fault (length bytes.now) 0 [] (headers bytes.now) }
 {
     let mut pages = 0;
     for index in 0..header_count(bytes) {
@@ -47,7 +48,7 @@ fn range_fault(bytes: &[u8]) -> Option<ImageFault>
         if !header.is_ranged(bytes.len() as u64, pages) {
             return Some(ImageFault::SegmentRange { index });
         }
-        pages += header.pages();
+        pages += header.pages_of();
     }
     None
 }
@@ -77,7 +78,7 @@ fn shares_earlier(bytes: &[u8], index: u32, segment: &Segment) -> bool
     let mut shares = false;
     for earlier in 0..index {
         let header = Header::read(bytes, earlier);
-        shares = (header.is_loadable() && shares_page(segment, &header.segment())) || shares;
+        shares = (header.is_loadable() && segment.shares_page(&header.segment())) || shares;
     }
     shares
 }

@@ -1,19 +1,29 @@
 //! An image that was accepted.
 
-ghost use Rattle.std.specs.Prelude.{◌≡◌, ℕ, ◌<◌, ◌≤◌, List, length, sum_by, false, IsTrue, MatchResult};
+ghost use Rattle.std.specs.Prelude.{◌≡◌, ℕ, ◌<◌, ◌≤◌, ◌^◌, List, length, sum_by, false, IsTrue};
+ghost use Rattle.std.specs.Prelude.{MatchResult};
 ghost use Rattle.std.specs.List.{All, AllPairs};
-ghost use Rattle.erim_defs.specs.Image.{IsAccepted, entry_point, image_data, image_heaps, image_trust, is_in_file, is_in_user, page_count, page_total, segments, shares_page};
-ghost use Rattle.erim_defs.specs.Parts.{AreBytes};
+ghost use Rattle.erim_defs.specs.Inspection.Image.{IsAccepted, IsPlaced, entry_point, image_data};
+ghost use Rattle.erim_defs.specs.Inspection.Image.{image_heaps, image_trust, page_count};
+ghost use Rattle.erim_defs.specs.Inspection.Image.{page_total, segments, shares_page};
+ghost use Rattle.erim_defs.specs.Encoding.Parts.{AreBytes};
 ghost use Rattle.elf_image.specs.Form.{IsSeen};
 
 use crate::field::entry_point;
 use crate::lists::{entries, segments, spans};
 use crate::notes::NotesSeen;
-use crate::record::{TRUSTED_DATA, TRUSTED_HEAP, TRUSTED_TEXT};
-use crate::segment::page_sum;
+use erim_defs::note::{TRUSTED_DATA, TRUSTED_HEAP, TRUSTED_TEXT};
 use erim_defs::{ImageFault, Segment, Span, Trust};
 use std::alloc::Global;
 use std::marker::Model;
+
+// How many pages the segments touch, shared ones counted for each.
+fn page_sum(segments: &[Segment]) -> u64
+    requires { sum_by page_count segments.now < 2 ^ 64 }
+    ensures { result ≡ sum_by page_count segments.now }
+{
+    segments.iter().map(Segment::page_count).sum()
+}
 
 /// An accepted image. Contracts see it as the bytes that it was read from.
 #[derive(Drop)]
@@ -34,7 +44,9 @@ impl Model for Image {
 
     ghost view = { λ image. image.bytes.items };
 
-    ghost invariant = { λ image. IsRead image.bytes.items image.segments.items image.trust image.trusted.items image.heaps.items image.entry };
+    ghost invariant = { λ image.
+        IsRead image.bytes.items image.segments.items image.trust image.trusted.items
+        image.heaps.items image.entry };
 }
 
 impl Image {
@@ -48,7 +60,8 @@ impl Image {
         requires accepted { IsAccepted bytes.now }
         requires octets { AreBytes bytes.now }
         requires notes { IsSeen bytes.now seen }
-        ensures { MatchResult result (λ image. image ≡ bytes.now) (λ fault. fault ≡ ImageFault.Memory) }
+        ensures { MatchResult result (λ image. image ≡ bytes.now)
+            (λ fault. fault ≡ ImageFault.Memory) }
     {
         let table = seen.records();
         let texts = spans(alloc, bytes, table, TRUSTED_TEXT)?;
@@ -77,7 +90,7 @@ impl Image {
         ensures list { result.now ≡ segments self.now }
 
         // Each lies in the file and in user memory.
-        ensures placed { All (λ s. IsTrue (is_in_file (length self.now) s) × IsTrue (is_in_user s) × (0 < s.memsz)) result.now }
+        ensures placed { All (IsPlaced (length self.now)) result.now }
 
         // No two share a page.
         ensures apart { AllPairs (λ s t. shares_page s t ≡ false) result.now }
@@ -115,7 +128,7 @@ impl Image {
     }
 
     /// How many pages all segments touch.
-    #[tactic(auto, unfolding(erim_defs::specs::Image::page_total))]
+    #[tactic(auto, unfolding(erim_defs::specs::Inspection::Image::page_total))]
     pub fn pages(&self) -> u32
         ensures value { result ≡ page_total self.now }
         ensures few { result ≤ 4080 }

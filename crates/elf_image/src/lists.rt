@@ -1,7 +1,7 @@
 //! The lists that an image tells.
 
 ghost use Rattle.std.specs.Prelude.{◌≡◌, IfOk};
-ghost use Rattle.erim_defs.specs.Image.{segments, starts_of};
+ghost use Rattle.erim_defs.specs.Inspection.Image.{segments, starts_of};
 ghost use Rattle.elf_image.specs.Form.{spans_in};
 ghost use Rattle.elf_image.specs.Notes.{HasTableOf};
 ghost use Rattle.elf_image.specs.Records.{table_records};
@@ -45,7 +45,7 @@ pub(crate) fn spans(
     for index in 0..table.count {
         let record = Record::read(bytes, table, index);
         if record.kind() == kind {
-            list.push(record.span())?;
+            list.push(record.span_of())?;
         }
     }
     Ok(list)
@@ -64,7 +64,7 @@ pub(crate) fn entries(
     let mut list = Vec::new(alloc);
     for index in 0..table.count {
         let record = Record::read(bytes, table, index);
-        if record.is_entry() {
+        if record.is_entry_record() {
             list.push(record.start())?;
         }
     }

@@ -1,46 +1,28 @@
-//! Notes (ELF-64, "Note section"): the sizes of name and desc and the type, of 4 bytes each, then name and
-//! desc, each padded to 4.
+//! Notes (ELF-64, "Note section"): the sizes of name and desc and the type, of 4 bytes each, then
+//! name and desc, each padded to 4.
 
 ghost use Rattle.std.specs.Prelude.{◌≡◌, ◌+◌, ◌≤◌, ◌<◌, ◌^◌, ◌&&◌, length, min, nat_le, true};
-ghost use Rattle.std.specs.Str.{bytes_eq};
-ghost use Rattle.erim_defs.specs.Image.{desc_size, is_counted, is_functions, is_note_shaped, is_trust, is_versioned, item_count, name_size, next_note, note_at, note_end, padded};
-ghost use Rattle.elf_image.specs.Notes.{HasItems, HasNote, table_of};
+ghost use Rattle.erim_defs.specs.Inspection.Image.{is_counted, is_functions, is_note_shaped};
+ghost use Rattle.erim_defs.specs.Inspection.Image.{is_trust, is_versioned, item_count, next_note};
+ghost use Rattle.erim_defs.specs.Inspection.Image.{note_at, note_end, padded_size};
+ghost use Rattle.elf_image.specs.Notes.{HasDesc, HasNote, table_of};
 
 use crate::field::u32_at;
-use crate::record::RECORD_SIZE;
 use crate::records::RecordTable;
-
-const NOTE_HEADER_SIZE: usize = 12;
-
-// The places of a note's fields.
-const DESC_SIZE: usize = 4;
-
-const KIND: usize = 8;
+use erim_defs::elf::{N_DESCSZ, N_TYPE, NOTE_HEADER_SIZE};
+use erim_defs::limits::{MOST_FUNCTIONS, MOST_RECORDS};
+use erim_defs::note::{
+    FUNCTION_SIZE, FUNCTIONS_NOTE, NOTE_COUNT, NOTE_ITEMS, NOTE_VERSION, RECORD_SIZE, TRUST_NOTE,
+};
+use std::marker::Model;
 
 // Names end with a zero.
 const TRUST_NAME: [u8; 5] = *b"ERIM\0";
 
-const TRUST_KIND: u32 = 1;
-
 const FUNCTIONS_NAME: [u8; 6] = *b"ERIMF\0";
 
-const FUNCTIONS_KIND: u32 = 2;
-
-// A desc begins with a version and a count.
-const COUNT: usize = 4;
-
-const ITEMS: u64 = 8;
-
-const MOST_RECORDS: u32 = 256;
-
-const FUNCTION_SIZE: u64 = 16;
-
-const MOST_FUNCTIONS: u32 = 4096;
-
-const VERSION: u32 = 1;
-
-fn padded(size: u32) -> u64
-    ensures { result ≡ padded size }
+fn padded_size(size: u32) -> u64
+    ensures { result ≡ padded_size size }
 {
     (u64::from(size) + 3) / 4 * 4
 }
@@ -51,11 +33,11 @@ fn parts_size(bytes: &[u8], place: usize) -> u64
     ensures { place + 12 + result ≡ note_end bytes.now place }
 {
     let name_size = u32_at(bytes, place);
-    let desc_size = u32_at(bytes, place + DESC_SIZE);
+    let desc_size = u32_at(bytes, place + N_DESCSZ);
     if desc_size == 0 {
         u64::from(name_size)
     } else {
-        padded(name_size) + u64::from(desc_size)
+        padded_size(name_size) + u64::from(desc_size)
     }
 }
 
@@ -75,7 +57,7 @@ pub(crate) fn next_note(bytes: &[u8], place: usize, end: usize) -> usize
     requires within { end ≤ length bytes.now }
     ensures { result ≡ min (next_note bytes.now place) end }
 {
-    let size = padded(u32_at(bytes, place)) + padded(u32_at(bytes, place + DESC_SIZE));
+    let size = padded_size(u32_at(bytes, place)) + padded_size(u32_at(bytes, place + N_DESCSZ));
     if size < (end - place - NOTE_HEADER_SIZE) as u64 {
         place + NOTE_HEADER_SIZE + size as usize
     } else {
@@ -83,89 +65,111 @@ pub(crate) fn next_note(bytes: &[u8], place: usize, end: usize) -> usize
     }
 }
 
-fn has_name(bytes: &[u8], place: usize, name: &[u8]) -> bool
-    requires { HasNote bytes.now place }
-    ensures { result ≡ bytes_eq (note_at bytes.now place).name name.now }
-{
-    let start = place + NOTE_HEADER_SIZE;
-    let end = start + u32_at(bytes, place) as usize;
-    &bytes[start..end] == name
+/// A note that lies in the bytes as a whole.
+#[derive(Drop)]
+pub(crate) struct Note<'a> {
+    place: usize,
+    name: &'a [u8],
+    kind: u32,
+    desc: usize,
+    size: u32,
 }
 
-pub(crate) fn is_trust(bytes: &[u8], place: usize) -> bool
-    requires { HasNote bytes.now place }
-    ensures { result ≡ is_trust (note_at bytes.now place) }
-{
-    has_name(bytes, place, &TRUST_NAME) && u32_at(bytes, place + KIND) == TRUST_KIND
+impl<'a> Model for Note<'a> {
+    ghost use Rattle.erim_defs.specs.Inspection.Image.{Note as NoteValue};
+
+    ghost Value = { NoteValue };
+
+    ghost view = { λ note.
+        record { place = note.place; name = note.name.now; kind = note.kind; desc = note.desc; size = note.size } };
 }
 
-pub(crate) fn is_functions(bytes: &[u8], place: usize) -> bool
-    requires { HasNote bytes.now place }
-    ensures { result ≡ is_functions (note_at bytes.now place) }
-{
-    has_name(bytes, place, &FUNCTIONS_NAME) && u32_at(bytes, place + KIND) == FUNCTIONS_KIND
-}
-
-fn desc_place(bytes: &[u8], place: usize) -> usize
-    requires { HasItems bytes.now place }
-    ensures { result ≡ (note_at bytes.now place).desc }
-{
-    place + NOTE_HEADER_SIZE + padded(u32_at(bytes, place)) as usize
-}
-
-fn item_count(bytes: &[u8], place: usize) -> u32
-    requires { HasItems bytes.now place }
-    ensures { result ≡ item_count bytes.now (note_at bytes.now place) }
-{
-    u32_at(bytes, desc_place(bytes, place) + COUNT)
-}
-
-// Does the desc have as many items of this size as it counts, and no more than may be?
-fn is_counted(bytes: &[u8], place: usize, item_size: u64, most: u32) -> bool
-    requires note { HasNote bytes.now place }
-    requires small { item_size < 2 ^ 16 }
-    ensures { result ≡ is_counted bytes.now (note_at bytes.now place) item_size most }
-{
-    let size = u64::from(u32_at(bytes, place + DESC_SIZE));
-    if size < ITEMS {
-        return false;
+impl<'a> Note<'a> {
+    /// The note at a place.
+    pub(crate) fn read(bytes: &'a [u8], place: usize) -> Note<'a>
+        requires { HasNote bytes.now place }
+        ensures value { result ≡ note_at bytes.now place }
+        ensures within { HasDesc bytes.now result }
+    {
+        let start = place + NOTE_HEADER_SIZE;
+        let name_size = u32_at(bytes, place);
+        Note {
+            place,
+            name: &bytes[start..start + name_size as usize],
+            kind: u32_at(bytes, place + N_TYPE),
+            desc: start + padded_size(name_size) as usize,
+            size: u32_at(bytes, place + N_DESCSZ),
+        }
     }
-    let count = item_count(bytes, place);
-    size == ITEMS + item_size * u64::from(count) && count <= most
-}
 
-pub(crate) fn is_note_shaped(bytes: &[u8], place: usize) -> bool
-    requires { HasNote bytes.now place }
-    ensures { result ≡ is_note_shaped bytes.now (note_at bytes.now place) }
-{
-    if is_trust(bytes, place) {
-        is_counted(bytes, place, RECORD_SIZE as u64, MOST_RECORDS)
-    } else if is_functions(bytes, place) {
-        is_counted(bytes, place, FUNCTION_SIZE, MOST_FUNCTIONS)
-    } else {
-        true
+    /// Is it a trust note?
+    pub(crate) fn is_trust(&self) -> bool
+        ensures { result ≡ is_trust self.now }
+    {
+        self.name == TRUST_NAME.as_slice() && self.kind == TRUST_NOTE
     }
-}
 
-// Has a trust or functions note the version that is read?
-pub(crate) fn is_versioned(bytes: &[u8], place: usize) -> bool
-    requires note { HasNote bytes.now place }
-    requires shaped { is_note_shaped bytes.now (note_at bytes.now place) ≡ true }
-    ensures { result ≡ is_versioned bytes.now (note_at bytes.now place) }
-{
-    !(is_trust(bytes, place) || is_functions(bytes, place))
-        || u32_at(bytes, desc_place(bytes, place)) == VERSION
-}
+    /// Is it a functions note?
+    pub(crate) fn is_functions(&self) -> bool
+        ensures { result ≡ is_functions self.now }
+    {
+        self.name == FUNCTIONS_NAME.as_slice() && self.kind == FUNCTIONS_NOTE
+    }
 
-/// Where the records of a trust note stand.
-pub(crate) fn table_of(bytes: &[u8], place: usize) -> RecordTable
-    requires note { HasNote bytes.now place }
-    requires shaped { is_note_shaped bytes.now (note_at bytes.now place) ≡ true }
-    requires trust { is_trust (note_at bytes.now place) ≡ true }
-    ensures { result ≡ table_of bytes.now (note_at bytes.now place) }
-{
-    RecordTable {
-        place: desc_place(bytes, place) + ITEMS as usize,
-        count: item_count(bytes, place),
+    fn item_count(&self, bytes: &[u8]) -> u32
+        requires { self.now.desc + 8 ≤ length bytes.now }
+        ensures { result ≡ item_count bytes.now self.now }
+    {
+        u32_at(bytes, self.desc + NOTE_COUNT)
+    }
+
+    // Does the desc have as many items of this size as it counts, and no more than may be?
+    fn is_counted(&self, bytes: &[u8], item_size: u64, most: u32) -> bool
+        requires within { HasDesc bytes.now self.now }
+        requires small { item_size < 2 ^ 16 }
+        ensures { result ≡ is_counted bytes.now self.now item_size most }
+    {
+        let size = u64::from(self.size);
+        if size < NOTE_ITEMS {
+            return false;
+        }
+        let count = self.item_count(bytes);
+        size == NOTE_ITEMS + item_size * u64::from(count) && count <= most
+    }
+
+    /// Is it shaped as its kind asks?
+    pub(crate) fn is_note_shaped(&self, bytes: &[u8]) -> bool
+        requires { HasDesc bytes.now self.now }
+        ensures { result ≡ is_note_shaped bytes.now self.now }
+    {
+        if self.is_trust() {
+            self.is_counted(bytes, RECORD_SIZE as u64, MOST_RECORDS)
+        } else if self.is_functions() {
+            self.is_counted(bytes, FUNCTION_SIZE, MOST_FUNCTIONS)
+        } else {
+            true
+        }
+    }
+
+    /// Has a trust or functions note the version that is read?
+    pub(crate) fn is_versioned(&self, bytes: &[u8]) -> bool
+        requires within { HasDesc bytes.now self.now }
+        requires shaped { is_note_shaped bytes.now self.now ≡ true }
+        ensures { result ≡ is_versioned bytes.now self.now }
+    {
+        !(self.is_trust() || self.is_functions()) || u32_at(bytes, self.desc) == NOTE_VERSION
+    }
+
+    /// Where the records of a trust note stand.
+    pub(crate) fn table_of(&self, bytes: &[u8]) -> RecordTable
+        requires within { HasDesc bytes.now self.now }
+        requires shaped { is_note_shaped bytes.now self.now ≡ true }
+        requires trust { is_trust self.now ≡ true }
+        ensures { result ≡ table_of bytes.now self.now }
+    {
+        RecordTable {
+            place: self.desc + NOTE_ITEMS as usize,
+            count: self.item_count(bytes),
+        }
     }
 }

@@ -1,16 +1,15 @@
 //! All notes of an image.
 
 ghost use Rattle.std.specs.Prelude.{◌≡◌, ℕ, ◌+◌, ◌≤◌, ◌<◌, List, is_some, length, true};
-ghost use Rattle.erim_defs.specs.Image.{is_in_file, is_note_shaped, is_noted, is_trust, note_at};
-ghost use Rattle.elf_image.specs.Notes.{HasNote, HasNotes, HasRecords, HasTableOf, Reads, ReadsAll, ReadsHeader, is_sound, see, seen_records};
+ghost use Rattle.erim_defs.specs.Inspection.Image.{is_in_file, is_note_shaped, is_noted};
+ghost use Rattle.elf_image.specs.Notes.{HasDesc, HasNotes, HasRecords, HasTableOf, Reads, ReadsAll};
+ghost use Rattle.elf_image.specs.Notes.{ReadsHeader, is_sound, see, seen_records};
 ghost use Rattle.elf_image.specs.Records.{table_records};
 ghost use Rattle.elf_image.specs.Table.{HasTable};
 
 use crate::field::header_count;
 use crate::header::Header;
-use crate::note::{
-    is_functions, is_note_shaped, is_trust, is_versioned, is_whole, next_note, table_of,
-};
+use crate::note::{Note, is_whole, next_note};
 use crate::records::RecordTable;
 use erim_defs::ImageFault;
 
@@ -27,9 +26,10 @@ pub(crate) struct NotesSeen {
 
 impl NotesSeen {
     /// The records of the trust note, or none.
-    #[tactic(auto, unfolding(erim_defs::specs::Image::records_from))]
+    #[tactic(auto, unfolding(erim_defs::specs::Inspection::Image::records_from))]
     pub(crate) fn records(self) -> RecordTable
-        ensures same { (bytes : List ℕ) → table_records bytes result ≡ seen_records bytes self.trust }
+        ensures same { (bytes : List ℕ) →
+            table_records bytes result ≡ seen_records bytes self.trust }
         ensures within { (bytes : List ℕ) → HasRecords bytes self → HasTableOf bytes result }
     {
         self.trust.unwrap_or(RecordTable { place: 0, count: 0 })
@@ -56,7 +56,8 @@ pub(crate) fn read_notes(bytes: &[u8]) -> Result<NotesSeen, ImageFault>
 // Reads the notes of one header.
 #[tactic(auto, unfolding(crate::specs::Notes::see_all))]
 fn read_header(bytes: &[u8], header: &Header, before: NotesSeen) -> Result<NotesSeen, ImageFault>
-    requires within { is_noted header.now ≡ true → is_in_file (length bytes.now) header.now.segment ≡ true }
+    requires within { is_noted header.now ≡ true →
+        is_in_file (length bytes.now) header.now.segment ≡ true }
     requires records { HasRecords bytes.now before }
     ensures { ReadsHeader bytes.now header.now before result }
 {
@@ -95,7 +96,7 @@ fn read_between(
             let at = place as u64;
             return Err(ImageFault::NoteShape { at });
         }
-        seen = see(bytes, place, seen);
+        seen = see(bytes, &Note::read(bytes, place), seen);
         place = next_note(bytes, place, end);
     }
     Ok(seen)
@@ -108,26 +109,29 @@ fn is_sound(bytes: &[u8], place: usize, end: usize, seen: NotesSeen) -> bool
     requires within { end ≤ length bytes.now }
     ensures { result ≡ is_sound bytes.now place end (is_some seen.trust) seen.functions }
 {
-    is_whole(bytes, place, end)
-        && is_note_shaped(bytes, place)
-        && !(seen.trust.is_some() && is_trust(bytes, place))
-        && !(seen.functions && is_functions(bytes, place))
+    if !is_whole(bytes, place, end) {
+        return false;
+    }
+    let note = Note::read(bytes, place);
+    note.is_note_shaped(bytes)
+        && !(seen.trust.is_some() && note.is_trust())
+        && !(seen.functions && note.is_functions())
 }
 
-// What is known after the note at a place.
+// What is known after one more note.
 #[tactic(auto, unfolding(crate::specs::Notes::see))]
-fn see(bytes: &[u8], place: usize, seen: NotesSeen) -> NotesSeen
-    requires note { HasNote bytes.now place }
-    requires shaped { is_note_shaped bytes.now (note_at bytes.now place) ≡ true }
-    ensures { result ≡ see bytes.now seen (note_at bytes.now place) }
+fn see(bytes: &[u8], note: &Note<'_>, seen: NotesSeen) -> NotesSeen
+    requires within { HasDesc bytes.now note.now }
+    requires shaped { is_note_shaped bytes.now note.now ≡ true }
+    ensures { result ≡ see bytes.now seen note.now }
 {
     let trust = match seen.trust {
-        None if is_trust(bytes, place) => Some(table_of(bytes, place)),
+        None if note.is_trust() => Some(note.table_of(bytes)),
         trust => trust,
     };
     NotesSeen {
         trust,
-        functions: seen.functions || is_functions(bytes, place),
-        versioned: seen.versioned && is_versioned(bytes, place),
+        functions: seen.functions || note.is_functions(),
+        versioned: seen.versioned && note.is_versioned(bytes),
     }
 }

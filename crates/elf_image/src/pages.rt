@@ -1,15 +1,15 @@
 //! The pages that segments hold.
 
 ghost use Rattle.std.specs.Prelude.{◌≡◌, ◌&&◌};
-ghost use Rattle.erim_defs.specs.Image.{is_loadable, segments, touches};
+ghost use Rattle.erim_defs.specs.Inspection.Image.{is_loadable, segments, touches};
 ghost use Rattle.elf_image.specs.Records.{is_held, is_lying, serves};
 ghost use Rattle.elf_image.specs.Table.{HasTable};
 
 use crate::field::header_count;
 use crate::header::Header;
 use crate::record::Record;
-use crate::segment::{PAGE_SIZE, is_executable, is_writable, touches};
 use erim_defs::Segment;
+use erim_defs::page::PAGE_SIZE;
 
 /// What a page is used for.
 #[derive(Clone, Copy)]
@@ -28,10 +28,10 @@ fn serves(purpose: Purpose, segment: &Segment) -> bool
     ensures { result ≡ serves purpose segment.now }
 {
     match purpose {
-        Purpose::Execution => is_executable(segment),
-        Purpose::Text => is_executable(segment) && !is_writable(segment),
-        Purpose::Data => !is_executable(segment),
-        Purpose::Heap => !is_executable(segment) && is_writable(segment),
+        Purpose::Execution => segment.is_executable(),
+        Purpose::Text => segment.is_executable() && !segment.is_writable(),
+        Purpose::Data => !segment.is_executable(),
+        Purpose::Heap => !segment.is_executable() && segment.is_writable(),
     }
 }
 
@@ -51,14 +51,15 @@ pub(crate) fn is_held(bytes: &[u8], purpose: Purpose, page: u64) -> bool
 
 // Does the page belong to the segment of a header, and does it serve the purpose?
 fn holds(header: &Header, purpose: Purpose, page: u64) -> bool
-    ensures { result ≡ (is_loadable header.now && (serves purpose header.now.segment && touches header.now.segment page)) }
+    ensures { result ≡ (is_loadable header.now
+        && (serves purpose header.now.segment && touches header.now.segment page)) }
 {
     let segment = header.segment();
-    header.is_loadable() && serves(purpose, &segment) && touches(&segment, page)
+    header.is_loadable() && serves(purpose, &segment) && segment.touches(page)
 }
 
-/// Do all pages of the record's range belong to segments that serve the purpose? Its range may be huge,
-/// and the first page that doesn't settles the answer.
+/// Do all pages of the record's range belong to segments that serve the purpose? Its range may be
+/// huge, and the first page that doesn't settles the answer.
 #[tactic(auto, using(crate::proofs::PageLemmas::lying_begins, crate::proofs::PageLemmas::are_held_stops, crate::proofs::PageLemmas::are_held_goes_on, crate::proofs::PageLemmas::are_held_ends))]
 pub(crate) fn is_lying(bytes: &[u8], purpose: Purpose, item: &Record) -> bool
     requires { HasTable bytes.now }

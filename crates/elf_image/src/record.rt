@@ -1,36 +1,20 @@
 //! A record of the trust note: its kind and its key of 4 bytes each, then start and length of 8.
 
 ghost use Rattle.std.specs.Prelude.{◌≡◌, ◌+◌, ◌%◌, ◌^◌, ◌<◌, ◌==◌, ◌&&◌, nat_le, nat_lt};
-ghost use Rattle.erim_defs.specs.Image.{holds_address, is_entry_record, is_range, is_text, overlaps, span_of};
+ghost use Rattle.erim_defs.specs.Inspection.Image.{holds_address, is_entry_record, is_range};
+ghost use Rattle.erim_defs.specs.Inspection.Image.{is_text, overlaps, span_of};
 ghost use Rattle.elf_image.specs.Notes.{HasTableOf};
 ghost use Rattle.elf_image.specs.Records.{record_of};
 
 use crate::field::{u32_at, u64_at};
 use crate::records::RecordTable;
-use crate::segment::{PAGE_SIZE, USER_TOP};
 use erim_defs::Span;
+use erim_defs::note::{
+    RECORD_KEY, RECORD_LENGTH, RECORD_SIZE, RECORD_START, TRUSTED_DATA, TRUSTED_ENTRY,
+    TRUSTED_HEAP, TRUSTED_TEXT,
+};
+use erim_defs::page::{PAGE_SIZE, TRUSTED_KEY, USER_END};
 use std::marker::Model;
-
-pub(crate) const RECORD_SIZE: usize = 24;
-
-// The places of a record's fields.
-const KEY: usize = 4;
-
-const START: usize = 8;
-
-const LENGTH: usize = 16;
-
-// Kinds of records.
-pub(crate) const TRUSTED_TEXT: u32 = 1;
-
-pub(crate) const TRUSTED_DATA: u32 = 2;
-
-pub(crate) const ENTRY: u32 = 3;
-
-pub(crate) const TRUSTED_HEAP: u32 = 4;
-
-// The one protection key that trusted memory has.
-const TRUSTED_KEY: u32 = 1;
 
 /// A record of the trust note.
 #[derive(Drop)]
@@ -42,11 +26,12 @@ pub(crate) struct Record {
 }
 
 impl Model for Record {
-    ghost use Rattle.erim_defs.specs.Image.{Record as RecordValue};
+    ghost use Rattle.erim_defs.specs.Inspection.Image.{Record as RecordValue};
 
     ghost Value = { RecordValue };
 
-    ghost view = { λ fields. record { kind = fields.kind; key = fields.key; start = fields.start; length = fields.length } };
+    ghost view = { λ fields.
+        record { kind = fields.kind; key = fields.key; start = fields.start; length = fields.length } };
 }
 
 impl Record {
@@ -60,9 +45,9 @@ impl Record {
         let place = table.place + RECORD_SIZE * index as usize;
         Record {
             kind: u32_at(bytes, place),
-            key: u32_at(bytes, place + KEY),
-            start: u64_at(bytes, place + START),
-            length: u64_at(bytes, place + LENGTH),
+            key: u32_at(bytes, place + RECORD_KEY),
+            start: u64_at(bytes, place + RECORD_START),
+            length: u64_at(bytes, place + RECORD_LENGTH),
         }
     }
 
@@ -84,7 +69,7 @@ impl Record {
         self.length
     }
 
-    pub(crate) fn span(&self) -> Span
+    pub(crate) fn span_of(&self) -> Span
         ensures { result ≡ span_of self.now }
     {
         Span {
@@ -97,7 +82,7 @@ impl Record {
     pub(crate) fn is_keyed(&self) -> bool
         ensures { result ≡ (self.now.key == 1) }
     {
-        self.key == TRUSTED_KEY
+        self.key == u32::from(TRUSTED_KEY)
     }
 
     /// Does it tell trusted text?
@@ -108,10 +93,10 @@ impl Record {
     }
 
     /// Does it tell an entry?
-    pub(crate) fn is_entry(&self) -> bool
+    pub(crate) fn is_entry_record(&self) -> bool
         ensures { result ≡ is_entry_record self.now }
     {
-        self.kind == ENTRY
+        self.kind == TRUSTED_ENTRY
     }
 
     /// Does it tell text, data or a heap?
@@ -123,13 +108,14 @@ impl Record {
 
     /// Is it made of whole pages of user memory?
     pub(crate) fn is_paged(&self) -> bool
-        ensures { result ≡ (self.now.start % 4096 == 0 && (self.now.length % 4096 == 0 && (nat_lt 0 self.now.length && nat_le (self.now.start + self.now.length) (2 ^ 47)))) }
+        ensures { result ≡ (self.now.start % 4096 == 0 && (self.now.length % 4096 == 0
+            && (nat_lt 0 self.now.length && nat_le (self.now.start + self.now.length) (2 ^ 47)))) }
     {
         self.start % PAGE_SIZE == 0
             && self.length % PAGE_SIZE == 0
             && self.length > 0
-            && self.length <= USER_TOP
-            && self.start <= USER_TOP - self.length
+            && self.length <= USER_END
+            && self.start <= USER_END - self.length
     }
 
     /// Does it overlap with a range of another record?
@@ -142,7 +128,7 @@ impl Record {
     }
 
     /// Does its trusted text hold the address?
-    pub(crate) fn holds(&self, address: u64) -> bool
+    pub(crate) fn holds_address(&self, address: u64) -> bool
         ensures { result ≡ holds_address address self.now }
     {
         self.is_text() && self.start <= address && is_below_end(address, self.start, self.length)

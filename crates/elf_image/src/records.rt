@@ -2,14 +2,18 @@
 
 ghost use Rattle.std.specs.Prelude.{◌≡◌, ◌≤◌, []};
 ghost use Rattle.std.specs.List.{list_any};
-ghost use Rattle.erim_defs.specs.Image.{data_fault, entry_fault, is_placed_data, is_record, overlaps, record_fault, segments, text_fault};
+ghost use Rattle.erim_defs.specs.Inspection.Image.{data_fault, entry_fault, is_placed_data};
+ghost use Rattle.erim_defs.specs.Inspection.Image.{is_record, overlaps, record_fault, segments};
+ghost use Rattle.erim_defs.specs.Inspection.Image.{text_fault};
 ghost use Rattle.elf_image.specs.Notes.{HasTableOf};
-ghost use Rattle.elf_image.specs.Records.{is_in_text, record_of, records_fault, seen_before, table_records};
+ghost use Rattle.elf_image.specs.Records.{is_in_text, record_of, records_fault, seen_before};
+ghost use Rattle.elf_image.specs.Records.{table_records};
 ghost use Rattle.elf_image.specs.Table.{HasTable};
 
 use crate::pages::{Purpose, is_lying};
-use crate::record::{Record, TRUSTED_DATA, TRUSTED_HEAP};
+use crate::record::Record;
 use erim_defs::ImageFault;
+use erim_defs::note::{TRUSTED_DATA, TRUSTED_HEAP};
 
 /// Where the records of a trust note stand, and how many.
 #[derive(Clone, Copy)]
@@ -55,7 +59,7 @@ fn is_record(bytes: &[u8], table: RecordTable, index: u32, item: &Record) -> boo
     if !item.is_keyed() {
         return false;
     }
-    if item.is_entry() {
+    if item.is_entry_record() {
         return item.length() == 0;
     }
     item.is_range() && item.is_paged() && !overlaps_earlier(bytes, table, index, item)
@@ -80,7 +84,7 @@ fn overlaps_earlier(bytes: &[u8], table: RecordTable, index: u32, item: &Record)
 fn text_fault(bytes: &[u8], table: RecordTable) -> Option<ImageFault>
     requires headers { HasTable bytes.now }
     requires records { HasTableOf bytes.now table }
-    ensures { result ≡ text_fault 0 (segments bytes.now) (table_records bytes.now table) }
+    ensures { result ≡ text_fault 0 (segments bytes.now) [] (table_records bytes.now table) }
 {
     for index in 0..table.count {
         let record = Record::read(bytes, table, index);
@@ -96,7 +100,7 @@ fn text_fault(bytes: &[u8], table: RecordTable) -> Option<ImageFault>
 fn data_fault(bytes: &[u8], table: RecordTable) -> Option<ImageFault>
     requires headers { HasTable bytes.now }
     requires records { HasTableOf bytes.now table }
-    ensures { result ≡ data_fault 0 (segments bytes.now) (table_records bytes.now table) }
+    ensures { result ≡ data_fault 0 (segments bytes.now) [] (table_records bytes.now table) }
 {
     for index in 0..table.count {
         if !is_placed_data(bytes, &Record::read(bytes, table, index)) {
@@ -123,11 +127,12 @@ fn is_placed_data(bytes: &[u8], item: &Record) -> bool
 #[tactic(auto, using(crate::proofs::RecordLemmas::entry_begins, crate::proofs::RecordLemmas::entry_stops, crate::proofs::RecordLemmas::entry_goes_on, crate::proofs::RecordLemmas::entry_ends))]
 fn entry_fault(bytes: &[u8], table: RecordTable) -> Option<ImageFault>
     requires { HasTableOf bytes.now table }
-    ensures { result ≡ entry_fault 0 (table_records bytes.now table) (table_records bytes.now table) }
+    ensures { result ≡ entry_fault 0 (table_records bytes.now table) []
+        (table_records bytes.now table) }
 {
     for index in 0..table.count {
         let record = Record::read(bytes, table, index);
-        if record.is_entry() && !is_in_text(bytes, table, record.start()) {
+        if record.is_entry_record() && !is_in_text(bytes, table, record.start()) {
             return Some(ImageFault::EntryNotTrusted { index });
         }
     }
@@ -141,7 +146,7 @@ fn is_in_text(bytes: &[u8], table: RecordTable, address: u64) -> bool
     ensures { result ≡ is_in_text address (table_records bytes.now table) }
 {
     for index in 0..table.count {
-        if Record::read(bytes, table, index).holds(address) {
+        if Record::read(bytes, table, index).holds_address(address) {
             return true;
         }
     }

@@ -1,6 +1,6 @@
 //! Images made by hand, field by field, and what each is read as.
 
-use crate::reading::check_later;
+use crate::image_reader::check_later;
 use crate::{Segment, Span, read_image};
 use std::alloc::{AllocError, Global};
 use std::process::Abort;
@@ -378,6 +378,229 @@ const TRUST_FAULTS: [(&str, &[Field], &str); 18] = [
 #[test]
 fn reports_faults_of_trust(rt: HostRuntime) -> Result<(), Fail> {
     for (name, edits, want) in TRUST_FAULTS {
+        let fault = later_fault(&rt, rt.alloc(), edits)?;
+        assert_eq!(rt; fault.as_str(), want, "at {name}");
+    }
+    Ok(())
+}
+
+// What may just be, and what just may not. Places and limits are those of the format, by hand.
+const LIMITS_ACCEPTED: [(&str, &[Field]); 14] = [
+    ("a segment right below the stack", &[(136, 0x7FFD_F000, 8)]),
+    ("a segment right above the stack", &[(136, 0x7FFF_0000, 8)]),
+    ("the lowest page", &[(136, 0x1_0000, 8)]),
+    (
+        "the highest page, which ends at 2^47",
+        &[(136, 0x7FFF_FFFF_F000, 8)],
+    ),
+    (
+        "the last byte below 2^47",
+        &[(136, 0x7FFF_FFFF_FFFF, 8), (152, 1, 8), (160, 1, 8)],
+    ),
+    // One header of 56 bytes at 0x3FC8, in a file of 0x4000.
+    (
+        "a header table that ends at the file's end",
+        &[
+            (56, 1, 2),
+            (32, 0x3FC8, 8),
+            (0x3FC8, 1, 4),
+            (0x3FCC, 5, 4),
+            (0x3FD0, 0x1000, 8),
+            (0x3FD8, 0x40_1000, 8),
+            (0x3FE8, 0x2000, 8),
+            (0x3FF0, 0x2000, 8),
+        ],
+    ),
+    // The headers behind the third are of type 0 without a note between them.
+    ("64 headers", &[(56, 64, 2), (176, 0, 4), (792, 0, 4)]),
+    (
+        "a file part that ends at the file's end",
+        &[(72, 0x2000, 8)],
+    ),
+    ("segments that meet at a page", &[(136, 0x40_3000, 8)]),
+    (
+        "records that meet at a page",
+        &[
+            (804, 0x40_1000, 8),
+            (820, 1, 4),
+            (828, 0x40_2000, 8),
+            (836, 4096, 8),
+        ],
+    ),
+    (
+        "text on the highest page",
+        &[
+            (124, 5, 4),
+            (136, 0x7FFF_FFFF_F000, 8),
+            (804, 0x7FFF_FFFF_F000, 8),
+            (828, 0x7FFF_FFFF_F000, 8),
+        ],
+    ),
+    ("an entry at the first byte of text", &[(828, 0x40_2000, 8)]),
+    ("an entry at the last byte of text", &[(828, 0x40_2FFF, 8)]),
+    ("an entry point in the last page", &[(24, 0x40_2FFF, 8)]),
+];
+
+#[test]
+fn accepts_limits(rt: HostRuntime) -> Result<(), Fail> {
+    for (name, edits) in LIMITS_ACCEPTED {
+        let bytes = trusting_with(rt.alloc(), edits)?;
+        assert!(rt; read_image(rt.alloc(), &bytes).is_ok(), "at {name}");
+    }
+    Ok(())
+}
+
+const LIMITS_REFUSED: [(&str, &[Field], &str); 25] = [
+    (
+        "the lower half of the stack",
+        &[(136, 0x7FFD_8000, 8), (160, 0x1_0000, 8)],
+        "image segment 1 range",
+    ),
+    (
+        "the upper half of the stack",
+        &[(136, 0x7FFE_8000, 8), (160, 0x1_0000, 8)],
+        "image segment 1 range",
+    ),
+    (
+        "the whole stack and a page on each side",
+        &[(136, 0x7FFD_F000, 8), (160, 0x1_2000, 8)],
+        "image segment 1 range",
+    ),
+    (
+        "one byte of the stack's first page",
+        &[(136, 0x7FFD_F001, 8)],
+        "image segment 1 range",
+    ),
+    (
+        "one byte of the stack's last page",
+        &[(136, 0x7FFE_FFFF, 8)],
+        "image segment 1 range",
+    ),
+    (
+        "a page below the lowest",
+        &[(136, 0xF000, 8)],
+        "image segment 1 range",
+    ),
+    (
+        "a page above the highest",
+        &[(136, 0x8000_0000_0000, 8)],
+        "image segment 1 range",
+    ),
+    (
+        "one byte above the highest page",
+        &[(136, 0x7FFF_FFFF_F001, 8)],
+        "image segment 1 range",
+    ),
+    (
+        "a header table one byte past the end",
+        &[(56, 1, 2), (32, 0x3FC9, 8)],
+        "image short at 16384",
+    ),
+    (
+        "65 headers",
+        &[(56, 65, 2), (176, 0, 4), (792, 0, 4)],
+        "image headers 65",
+    ),
+    (
+        "a file part one byte past the end",
+        &[(128, 0x3001, 8)],
+        "image segment 1 range",
+    ),
+    (
+        "segments with one page in common",
+        &[(136, 0x40_2000, 8)],
+        "image segment 1 shares a page",
+    ),
+    (
+        "text that begins within a page",
+        &[(804, 0x40_2001, 8)],
+        "image record 0",
+    ),
+    (
+        "text that begins in the middle of a page",
+        &[(804, 0x40_1800, 8)],
+        "image record 0",
+    ),
+    (
+        "text that ends within a page",
+        &[(812, 4097, 8)],
+        "image record 0",
+    ),
+    (
+        "a record over the end of the one before",
+        &[
+            (804, 0x40_1000, 8),
+            (812, 0x2000, 8),
+            (820, 2, 4),
+            (828, 0x40_2000, 8),
+            (836, 0x2000, 8),
+        ],
+        "image record 1",
+    ),
+    (
+        "a record over the start of the one before",
+        &[
+            (812, 0x2000, 8),
+            (820, 4, 4),
+            (828, 0x40_1000, 8),
+            (836, 0x2000, 8),
+        ],
+        "image record 1",
+    ),
+    (
+        "a record within the one before",
+        &[
+            (804, 0x40_1000, 8),
+            (812, 0x3000, 8),
+            (820, 1, 4),
+            (828, 0x40_2000, 8),
+            (836, 0x1000, 8),
+        ],
+        "image record 1",
+    ),
+    (
+        "a record around the one before",
+        &[(820, 1, 4), (828, 0x40_1000, 8), (836, 0x3000, 8)],
+        "image record 1",
+    ),
+    // It ends where it may, and lies in no segment.
+    (
+        "a record that ends at 2^47",
+        &[(804, 0x7FFF_FFFF_F000, 8)],
+        "image record 0 text",
+    ),
+    (
+        "a record that ends a page above 2^47",
+        &[(804, 0x7FFF_FFFF_F000, 8), (812, 0x2000, 8)],
+        "image record 0",
+    ),
+    (
+        "an entry at the byte before the text",
+        &[(828, 0x40_1FFF, 8)],
+        "image record 1 entry",
+    ),
+    (
+        "an entry point behind the last page",
+        &[(24, 0x40_3000, 8)],
+        "image entry point",
+    ),
+    // The third of them is empty, so the count was passed.
+    (
+        "256 records",
+        &[(772, 6152, 4), (792, 256, 4), (208, 6172, 8)],
+        "image record 2",
+    ),
+    // 4,081 pages, of which two are the text's.
+    (
+        "the last page over",
+        &[(136, 0x1_0000_0000, 8), (160, 4078 * 4096 + 1, 8)],
+        "image segment 1 range",
+    ),
+];
+
+#[test]
+fn refuses_past_limits(rt: HostRuntime) -> Result<(), Fail> {
+    for (name, edits, want) in LIMITS_REFUSED {
         let fault = later_fault(&rt, rt.alloc(), edits)?;
         assert_eq!(rt; fault.as_str(), want, "at {name}");
     }

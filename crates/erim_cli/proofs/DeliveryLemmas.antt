@@ -1,175 +1,246 @@
--- How a call ends, from how its parts ended.
-use Rattle.std.proofs.Common.{◌≡◌, ◌≢◌, ℕ, ◌<◌, List, ◌++◌, ◌∷◌, [], length, replicate, Option, Some, None, Ok, Err, refl, subst, arith, inl, inr}
-use Rattle.std.specs.Prelude.{codes, IsSomeAnd, ⊤}
+-- How a reply's delivery ends, and how a plan is carried out, from how the parts of a call ended.
+use Rattle.std.proofs.Common.{◌≡◌, ◌∙◌, ℕ, ◌<◌, ◌≤◌, List, ◌++◌, ◌∷◌, [], length, replicate, Option}
+use Rattle.std.proofs.Common.{Some, None, Result, Ok, Err, refl, sym, ap, subst, arith, inl, inr}
+use Rattle.std.specs.Prelude.{codes, IsSomeAnd, IfOk, IfSome, ◌≢◌}
 use Rattle.std.specs.Io.KnownBytes.{Keeps}
-use Rattle.std.proofs.lemmas.Bool.{lt-ltb}
 use Rattle.std.proofs.Math.ListN.{length-replicate}
 use Rattle.erim_io.specs.Store.{Name, Files, Holds, HoldsLength}
 use Rattle.erim_io.specs.declared.store.SaveFault.TheVariants.{Failed, Memory}
-use Rattle.erim_defs.specs.declared.found.Found.{Found}
-use Rattle.erim_defs.specs.declared.machine.End.{End}
-use Rattle.erim_defs.specs.declared.machine.End.TheVariants.{Exit, Fault, Refused}
-use Rattle.erim_defs.specs.Texts.{error_line}
-use Rattle.erim_defs.specs.Words.{Command, Inspect, Disasm, Run}
-use Rattle.erim_cli.specs.Replies.{Saved, Reply, told, not_understood, image_limit, image_list, list_status, end_status, refusal, image_of, IsWorkOf, IsUnlessRefused, IsReplyOn, IsReplyTo}
-use Rattle.erim_cli.specs.Delivery.{World, PutEnds, SavesHeld, noted_file, KeepsStore, IsUntouched, HasNotLoaded, HasNotSaved, IsSavedBy, Ends}
-use Rattle.erim_cli.specs.Deliveries.{HasNotKept, HoldsTooMuch, Delivers, LoadsImage}
+use Rattle.std.specs.Option.{option_map}
+use Rattle.erim_defs.specs.declared.fault.ImageFault.{ImageFault}
+use Rattle.erim_defs.specs.declared.fault.ImageFault.TheVariants.{Memory as NoRoom}
+use Rattle.erim_defs.specs.declared.memory.NoMemory.{NoMemory}
+use Rattle.erim_defs.specs.Machine.State.{Setup}
+use Rattle.erim_defs.specs.Output.Texts.{error_line, fault_text}
+use Rattle.erim_cli.specs.declared.reply.Reply.{Reply as Made}
+use Rattle.erim_cli.specs.declared.reply.Status.TheVariants.{ImageRefused}
+use Rattle.erim_cli.specs.Statuses.{code_of}
+use Rattle.erim_cli.specs.Replies.{Saved, Reply, Answer, One, Ran, IsAnswer, IsRunReply, told}
+use Rattle.erim_cli.specs.Replies.{image_fault, start_refusal}
+use Rattle.erim_cli.specs.Plans.{Plan, Ask, Tell, unless}
+use Rattle.erim_cli.specs.Commands.{image_limit, image_refused, with_image, with_start}
+use Rattle.erim_cli.specs.Delivery.{World, KeepsStore, IsUntouched, HasNotLoaded, HasNotKept}
+use Rattle.erim_cli.specs.Delivery.{HoldsMore, Delivers, Carries}
+use Rattle.erim_cli.specs.CallParts.{reply_of, Puts, SavesHeld, noted_file, Loads, EndsAs}
+use Rattle.erim_cli.specs.CallParts.{IsMadeFor, Passes}
 
 -- ---- a reply's delivery
 
 -- its file was saved, or there was none
-pub save_kept : (save : Option Saved) (old new : World) → SavesHeld save (Ok tt) old.held new.held → new.failed_loads ≡ old.failed_loads
+pub save_kept : (save : Option Saved) (old new : World) → SavesHeld save (Ok tt) old.held new.held
+    → new.failed_loads ≡ old.failed_loads
     → new.failed_saves ≡ noted_file save (Ok tt) old.failed_saves → KeepsStore save old new
 save_kept None old new held loads saves = record { held = held.1; loads = loads; saves = saves }
-save_kept (Some file) old new held loads saves = record { held = held; loads = loads; saves = saves }
+save_kept (Some file) old new held loads saves =
+    record { held = held; loads = loads; saves = saves }
 
 -- its text was put
 pub delivers_put : (reply : Reply) (old new : World) (result : ℕ) → KeepsStore reply.save old new
-    → PutEnds reply.status reply.text old.written new.written old.faults new.faults result → Delivers reply old new result
-delivers_put reply old new result store (inl whole) = inl (whole.0, record { text = whole.1; store = store })
-delivers_put reply old new result store (inr part) = inr (inl (part.0, inr (record { risen = part.1; text = part.2; store = store })))
+    → Puts (code_of reply.status) reply.text old.written new.written old.faults new.faults result
+    → Delivers reply old new result
+delivers_put reply old new result store (inl whole) =
+    inl (whole.0, record { text = whole.1; store = store; puts = whole.2 })
+delivers_put reply old new result store (inr part) =
+    inr (inl (part.0, inr (record { text = part.1; store = store; puts = part.2 })))
 
 -- its save failed, and the line that says so was put
-pub delivers_unsaved : (reply : Reply) (save : Option Saved) (old new : World) (result : ℕ) → reply.save ≡ save → SavesHeld save (Err Failed) old.held new.held
-    → new.failed_loads ≡ old.failed_loads → new.failed_saves ≡ noted_file save (Err Failed) old.failed_saves
-    → PutEnds 4 (error_line (codes "save failed")) old.written new.written old.faults new.faults result → Delivers reply old new result
-delivers_unsaved reply None old new result is held loads saves put = absurd (let no = held.0 in cc)
+pub delivers_unsaved : (reply : Reply) (save : Option Saved) (old new : World) (result : ℕ)
+    → reply.save ≡ save → SavesHeld save (Err Failed) old.held new.held
+    → new.failed_loads ≡ old.failed_loads
+    → new.failed_saves ≡ noted_file save (Err Failed) old.failed_saves
+    → Puts 4 (error_line (codes "save failed")) old.written new.written old.faults new.faults result
+    → Delivers reply old new result
+delivers_unsaved reply None old new result is held loads saves put = absurd (let bad = held.0 in cc)
 delivers_unsaved reply (Some file) old new result is held loads saves (inl whole) =
-    let lost : HasNotKept (Some file) old new = record { loads = loads; saves = saves; held = held; line = inl whole.1 } in
+    let lost : HasNotKept (Some file) old new =
+    record { loads = loads; saves = saves; held = held; line = inl (whole.1, whole.2) } in
     inr (inl (whole.0, inl (rw is lost)))
 delivers_unsaved reply (Some file) old new result is held loads saves (inr part) =
-    let lost : HasNotKept (Some file) old new = record { loads = loads; saves = saves; held = held; line = inr (part.1, part.2) } in
+    let lost : HasNotKept (Some file) old new =
+    record { loads = loads; saves = saves; held = held; line = inr (part.1, part.2) } in
     inr (inl (part.0, inl (rw is lost)))
 
 -- memory gave out at the save
-pub save_untouched : (save : Option Saved) (old new : World) → SavesHeld save (Err Memory) old.held new.held → new.failed_loads ≡ old.failed_loads
-    → new.failed_saves ≡ noted_file save (Err Memory) old.failed_saves → Keeps old.written new.written → IsUntouched old new
-save_untouched None old new held loads saves text = absurd (let no = held.0 in cc)
-save_untouched (Some file) old new held loads saves text = record { text = text; store = record { held = held; loads = loads; saves = saves } }
-
--- ---- replies
-
--- a file of a reply is the one that the command saves
-abbrev pub IsOwnSave : Option Command → Option Saved → Type 0
-IsOwnSave words None = ⊤
-IsOwnSave words (Some file) = IsSavedBy words file.name
-
--- a status of its own, and no file but the one that the command saves
-pub record IsOwn (words : Option Command) (reply : Reply) : Type 0 where
-  pub not_failed : reply.status ≢ 4
-  pub not_memory : reply.status ≢ 5
-  pub save : IsOwnSave words reply.save
-
-told_own : (words : Option Command) (status : ℕ) (text : List ℕ) → status < 4 → IsOwn words (told status text)
-told_own words status text small = record { not_failed = omega arith; not_memory = omega arith; save = tt }
-
-list_own : (words : Option Command) (os : List Found) (text : List ℕ) → IsOwn words (record { status = list_status os; text = text; save = None })
-list_own words [] text = record { not_failed = omega arith; not_memory = omega arith; save = tt }
-list_own words (o ∷ os) text = record { not_failed = omega arith; not_memory = omega arith; save = tt }
-
-run_own : (image journal : Name) (end : Option End) (text bytes : List ℕ)
-    → IsOwn (Some (Run image journal)) (record { status = end_status end; text = text; save = Some (record { name = journal; bytes = bytes }) })
-run_own image journal None text bytes = record { not_failed = omega arith; not_memory = omega arith; save = refl }
-run_own image journal (Some (Exit code)) text bytes = record { not_failed = omega arith; not_memory = omega arith; save = refl }
-run_own image journal (Some (Fault thread rip cause addr)) text bytes = record { not_failed = omega arith; not_memory = omega arith; save = refl }
-run_own image journal (Some (Refused page found thread)) text bytes = record { not_failed = omega arith; not_memory = omega arith; save = refl }
-
-work_own : (command : Command) (bytes : List ℕ) (reply : Reply) → IsWorkOf command bytes reply → IsOwn (Some command) reply
-work_own (Inspect image) bytes reply is = rw is (list_own (Some (Inspect image)) (image_list bytes) _)
-work_own (Disasm image) bytes reply is = rw is (record { not_failed = omega arith; not_memory = omega arith; save = tt })
-work_own (Run image journal) bytes reply is = rw is.answer (run_own image journal is.last.end _ _)
-
-unless_own : (text : Option (List ℕ)) (command : Command) (bytes : List ℕ) (reply : Reply) → IsUnlessRefused text command bytes reply → IsOwn (Some command) reply
-unless_own None command bytes reply is = work_own command bytes reply is
-unless_own (Some text) command bytes reply is = rw is (told_own (Some command) 3 text (omega arith))
-
-reply_own : (words : Option Command) (held : Option Files) (reply : Reply) → IsReplyTo words held reply → IsOwn words reply
-reply_own None held reply is = rw is (told_own None 2 (codes "words not understood") (omega arith))
-reply_own (Some command) held reply is = unless_own (refusal command is.0) command is.0 reply is.2
-
--- ---- ends
-
-pub ends_untouched : (words : Option Command) (old new : World) (result : ℕ) → result ≡ 5 → IsUntouched old new → Ends words old new result
-ends_untouched words old new result five untouched = record {
-  memory = λ _. untouched;
-  failed = λ four. absurd (omega (arith, five, four));
-  replied = λ _ other. absurd (other five);
-}
-
--- a reply was delivered
-pub ends_delivered : (words : Option Command) (old new : World) (reply : Reply) (result : ℕ) → IsReplyTo words old.held reply
-    → Delivers reply old new result → Ends words old new result
-ends_delivered words old new reply result is (inl whole) =
-    let own = reply_own words old.held reply is in record {
-      memory = λ five. absurd (own.not_memory (omega (arith, whole.0, five)));
-      failed = λ four. absurd (own.not_failed (omega (arith, whole.0, four)));
-      replied = λ _ _. (reply, is, whole.0, whole.1);
+pub save_untouched : (save : Option Saved) (old new : World)
+    → SavesHeld save (Err Memory) old.held new.held → new.failed_loads ≡ old.failed_loads
+    → new.failed_saves ≡ noted_file save (Err Memory) old.failed_saves
+    → Keeps old.written new.written → new.faults ≡ old.faults → IsUntouched old new
+save_untouched None old new held loads saves text puts = absurd (let bad = held.0 in cc)
+save_untouched (Some file) old new held loads saves text puts =
+    record {
+      text = text;
+      store = record { held = held; loads = loads; saves = saves };
+      puts = puts;
     }
-ends_delivered words old new reply result is (inr (inl (four, inl lost))) = record {
-  memory = λ five. absurd (omega (arith, four, five));
-  failed = λ _. inr (inl (file_lost reply.save (reply_own words old.held reply is).save lost));
-  replied = λ other _. absurd (other four);
+
+keeps : (known : Option (List ℕ)) → Keeps known known
+keeps None = tt
+keeps (Some bytes) = refl
+
+pub untouched : (w : World) → IsUntouched w w
+untouched w = record {
+  text = keeps w.written;
+  store = record { held = refl; loads = refl; saves = refl };
+  puts = refl;
 }
-  where
-    file_lost : (save : Option Saved) → IsOwnSave words save → HasNotKept save old new → (name : Name) × IsSavedBy words name × HasNotSaved name old new
-    file_lost None own lost = absurd lost
-    file_lost (Some file) own lost = (file.name, own, lost)
-ends_delivered words old new reply result is (inr (inl (four, inr cut))) = record {
-  memory = λ five. absurd (omega (arith, four, five));
-  failed = λ _. inr (inr (reply, is, cut));
-  replied = λ other _. absurd (other four);
-}
-ends_delivered words old new reply result is (inr (inr (five, untouched))) = ends_untouched words old new result five untouched
-
--- bytes above the limit are refused
-too_much : (command : Command) (bytes : List ℕ) → image_limit < length bytes → IsReplyOn command bytes (told 3 (codes "image too large"))
-unfolding refusal
-too_much command bytes lt = rw (lt-ltb image_limit (length bytes) lt) refl
-
--- the image wasn't loaded
-pub ends_unloaded : (A : Type 0) (command : Command) (old new : World) (result : ℕ) → LoadsImage {A = A} (image_of command) old new (Err result) → Ends (Some command) old new result
-ends_unloaded A command old new result (inl (five, untouched)) = ends_untouched (Some command) old new result five untouched
-ends_unloaded A command old new result (inr (inl (four, lost))) = record {
-  memory = λ five. absurd (omega (arith, four, five));
-  failed = λ _. inl (image_of command, refl, lost);
-  replied = λ other _. absurd (other four);
-}
-ends_unloaded A command old new result (inr (inr (long, delivered))) =
-    ends_delivered (Some command) old new (told 3 (codes "image too large")) result (long.0, long.1, too_much command long.0 long.2) delivered
-
--- the image was loaded, which changed nothing, and the reply on its bytes was delivered
-pub ends_loaded : (command : Command) (old mid new : World) (bytes : List ℕ) (reply : Reply) (result : ℕ) → mid ≡ old → Holds old.held (image_of command) (Some bytes)
-    → IsReplyOn command bytes reply → Delivers reply mid new result → Ends (Some command) old new result
-ends_loaded command old mid new bytes reply result same holds is delivered =
-    ends_delivered (Some command) old new reply result (bytes, holds, is) (let P : World → Type 0 = λ w. Delivers reply w new result in subst P same delivered)
-
--- the words mean no command
-pub ends_not_understood : (old new : World) (result : ℕ) → KeepsStore None old new
-    → PutEnds 2 (error_line (codes "words not understood")) old.written new.written old.faults new.faults result → Ends None old new result
-ends_not_understood old new result store put = ends_delivered None old new not_understood result refl (delivers_put not_understood old new result store put)
 
 -- ---- loads
 
--- a world is what it tells
-pub same_world : (held held' : Option Files) (loads loads' saves saves' : List Name) (written : Option (List ℕ)) (faults : ℕ) → held' ≡ held → loads' ≡ loads → saves' ≡ saves
-    → (let w : World = record { held = held'; failed_loads = loads'; failed_saves = saves'; written = written; faults = faults } in w)
-    ≡ (let w : World = record { held = held; failed_loads = loads; failed_saves = saves; written = written; faults = faults } in w)
-same_world held held' loads loads' saves saves' written faults h l s = rw (h, l, s) refl
+-- a put of the same text with the same status
+pub puts_as : (s t : ℕ) (x y : List ℕ) (old new : World) (result : ℕ) → s ≡ t → x ≡ y
+    → Puts s x old.written new.written old.faults new.faults result
+    → Puts t y old.written new.written old.faults new.faults result
+puts_as s t x y old new result p q puts = rw (← p, ← q) puts
 
 -- a load that failed, whose line was put
-pub unloaded_line : (name : Name) (old new : World) (result : ℕ) → new.failed_loads ≡ old.failed_loads ++ name ∷ [] → new.failed_saves ≡ old.failed_saves → new.held ≡ old.held
-    → PutEnds 4 (error_line (codes "load failed")) old.written new.written old.faults new.faults result → (result ≡ 4) × HasNotLoaded name old new
-unloaded_line name old new result loads saves held (inl whole) = (whole.0, record { loads = loads; saves = saves; held = held; line = inl whole.1 })
-unloaded_line name old new result loads saves held (inr part) = (part.0, record { loads = loads; saves = saves; held = held; line = inr (part.1, part.2) })
+pub unloaded : (name : Name) (old new : World) (result : ℕ)
+    → new.failed_loads ≡ old.failed_loads ++ name ∷ [] → new.failed_saves ≡ old.failed_saves
+    → new.held ≡ old.held
+    → Puts 4 (error_line (codes "load failed")) old.written new.written old.faults new.faults result
+    → (result ≡ 4) × HasNotLoaded name old new
+unloaded name old new result loads saves held (inl whole) =
+    (whole.0, record { loads = loads; saves = saves; held = held; line = inl (whole.1, whole.2) })
+unloaded name old new result loads saves held (inr part) =
+    (part.0, record { loads = loads; saves = saves; held = held; line = inr (part.1, part.2) })
 
 -- a length above the limit
-pub holds_too_much : (name : Name) (old : World) (n : ℕ) → image_limit < n → HoldsLength old.held name n → HoldsTooMuch name old
-holds_too_much name old n lt long = by old.held long
+pub holds_more : (name : Name) (held : Option Files) (limit n : ℕ) → limit < n
+    → HoldsLength held name n → HoldsMore name limit held
+holds_more name None limit n lt long =
+    (let zero : ℕ = 0 in (replicate n zero, tt, omega (arith, length-replicate n zero)))
+holds_more name (Some files) limit n lt long = in_files (files name) long
   where
-    in_files : (found : Option (List ℕ)) → IsSomeAnd found (λ bytes. length bytes ≡ n) → (bytes : List ℕ) × (found ≡ Some bytes) × (image_limit < length bytes)
+    in_files : (found : Option (List ℕ)) → IsSomeAnd found (λ bytes. length bytes ≡ n)
+        → (bytes : List ℕ) × (found ≡ Some bytes) × (limit < length bytes)
     in_files None some = absurd some
     in_files (Some bytes) some = (bytes, refl, omega (arith, some))
 
-    by : (held : Option Files) → HoldsLength held name n → (bytes : List ℕ) × Holds held name (Some bytes) × (image_limit < length bytes)
-    by None long = (let zero : ℕ = 0 in (replicate n zero, tt, omega (arith, length-replicate n zero)))
-    by (Some files) long = in_files (files name) long
+-- ---- plans
+
+-- memory ran out
+pub carries_nothing : (plan : Plan Answer) (old new : World) (status : ℕ) → status ≡ 5
+    → IsUntouched old new → Carries IsAnswer plan old new status
+carries_nothing (Tell a) old new status five same = inr (five, same)
+carries_nothing (Ask name limit too_large next) old new status five same =
+    inr (inr (inr (five, same)))
+
+-- a plan that loads nothing more was answered
+pub carries_reply : (plan : Plan Answer) (reply : Reply) (old new : World) (status : ℕ)
+    → EndsAs plan reply → Delivers reply old new status → Carries IsAnswer plan old new status
+carries_reply (Tell a) reply old new status ends delivers = inl (reply, ends, delivers)
+carries_reply (Ask name limit too_large next) reply old new status ends delivers = absurd ends
+
+-- from a world that is the same
+pub carries_from : (plan : Plan Answer) (mid old new : World) (status : ℕ) → mid ≡ old
+    → Carries IsAnswer plan mid new status → Carries IsAnswer plan old new status
+carries_from plan mid old new status same carries = let P : World
+    → Type 0 = λ w. Carries IsAnswer plan w new status in subst P same carries
+
+-- the words mean no command, which a line says
+pub carries_line : (reply : Reply) (old new : World) (status : ℕ) → KeepsStore reply.save old new
+    → Puts (code_of reply.status) reply.text old.written new.written old.faults new.faults status
+    → Carries IsAnswer (Tell (One reply)) old new status
+carries_line reply old new status store put =
+    inl (reply, refl, delivers_put reply old new status store put)
+
+-- ---- the step of a plan that loads and reads an image
+
+abbrev fault_of : ImageFault → Result (List ℕ) ImageFault
+fault_of fault = Err fault
+
+abbrev pub too_large : Reply
+too_large = told ImageRefused (codes "image too large")
+
+-- a load that ended the call
+pub image_unloaded : (Z : Type 0) (name : Name) (next : List ℕ
+    → Plan Answer) (old new : World) (status : ℕ)
+    → Loads {Z = Z} name image_limit too_large old new (Err status)
+    → Carries IsAnswer (with_image name next) old new status
+image_unloaded Z name next old new status (inl long) = inr (inl (long.0, (too_large, refl, long.1)))
+image_unloaded Z name next old new status (inr (inl lost)) = inr (inr (inl lost))
+image_unloaded Z name next old new status (inr (inr nothing)) = inr (inr (inr nothing))
+
+-- it was loaded and has no fault
+pub image_passes : (name : Name) (bytes image : List ℕ) (old new : World) → new ≡ old
+    → Holds old.held name (Some bytes) → length bytes ≤ image_limit
+    → image_fault bytes ≡ None → image ≡ bytes → Passes (with_image name) old new (Ok image)
+image_passes name bytes image old new same holds within fine is =
+    let P : List ℕ → Type 0 = λ i. Passes (with_image name) old new (Ok i) in
+    subst P (sym is) (same, go)
+  where
+    go : (next : List ℕ → Plan Answer) (later : World) (status : ℕ)
+        → Carries IsAnswer (next bytes) old later status
+        → Carries IsAnswer (with_image name next) old later status
+    go next later status rest =
+        (let here : Carries IsAnswer (unless (image_fault bytes) image_refused (next bytes)) old
+        later status = rw fine rest in
+        inl (bytes, holds, within, here))
+
+-- a reply that was made, or want of memory
+pub made_one : (reply : Reply) (r : Result Made NoMemory) → IfOk r (λ m. reply_of m ≡ reply)
+    → IsMadeFor (Tell (One reply)) r
+made_one reply (Ok m) is = is
+made_one reply (Err e) is = tt
+
+-- what reading says: the bytes have no fault
+pub read_accepted : (bytes image : List ℕ) (first : Option ImageFault)
+    → IfSome first (λ fault. Ok image ≡ Err fault) → (first ≡ None → image ≡ bytes)
+    → (option_map fault_text first ≡ None) × (image ≡ bytes)
+read_accepted bytes image None faulty accepted = (refl, accepted refl)
+read_accepted bytes image (Some fault) faulty accepted = absurd cc
+
+-- or they have this one, which a reply says
+pub read_faulty : (fault : ImageFault) (first : Option ImageFault) (next : Plan Answer)
+    (r : Result Made NoMemory) → IfSome first (λ f. fault_of fault ≡ Err f)
+    → (first ≡ None → fault ≡ NoRoom)
+    → IfOk r (λ m. (fault ≢ NoRoom) × (reply_of m ≡ told ImageRefused (fault_text fault)))
+    → IsMadeFor (unless (option_map fault_text first) image_refused next) r
+read_faulty fault first next (Err e) faulty accepted made = tt
+read_faulty fault None next (Ok m) faulty accepted made = absurd (made.0 (accepted refl))
+read_faulty fault (Some f) next (Ok m) faulty accepted made =
+    let same : f ≡ fault = cc in
+    made.1 ∙ ap (λ x. told ImageRefused (fault_text x)) (sym same)
+
+-- it was loaded and has a fault, which was told
+pub image_faulty : (name : Name) (bytes slice : List ℕ) (old mid new : World)
+    (reply : Result Made NoMemory) (status : ℕ) → mid ≡ old → Holds old.held name (Some bytes)
+    → length bytes ≤ image_limit → slice ≡ bytes
+    → ((next : Plan Answer) → IsMadeFor (unless (image_fault slice) image_refused next) reply)
+    → ((plan : Plan Answer) → IsMadeFor plan reply → Carries IsAnswer plan mid new status)
+    → (next : List ℕ → Plan Answer) → Carries IsAnswer (with_image name next) old new status
+image_faulty name bytes slice old mid new reply status same holds within is made concluded next =
+    let rest : List ℕ → Plan Answer = λ bs. unless (image_fault bs) image_refused (next bytes) in
+    let told_so : Carries IsAnswer (rest slice) old new status =
+    carries_from (rest slice) mid old new status same
+    (concluded (rest slice) (made (next bytes))) in
+    let P : List ℕ → Type 0 = λ bs. Carries IsAnswer (rest bs) old new status in
+    inl (bytes, holds, within, subst P is told_so)
+
+-- what followed an image that was read
+pub image_next : (name : Name) (next : List ℕ
+    → Plan Answer) (bytes : List ℕ) (old mid new : World) (status : ℕ) → Passes (with_image
+    name) old mid (Ok bytes)
+    → Carries IsAnswer (next bytes) mid new status
+    → Carries IsAnswer (with_image name next) old new status
+image_next name next bytes old mid new status passes carries =
+    passes.1 next new status (carries_from (next bytes) mid old new status passes.0 carries)
+
+-- ---- the step of a plan that starts an image
+
+-- it can't start, which a reply says
+pub start_refused : (setup : Setup) (next : Plan Answer) (text : List ℕ) (r : Result Made NoMemory)
+    → start_refusal setup ≡ Some text
+    → IfOk r (λ m. reply_of m ≡ told ImageRefused text) → IsMadeFor (with_start setup next) r
+start_refused setup next text r bad made = rw bad (made_one (told ImageRefused text) r made)
+
+-- it can start
+pub start_passes : (setup : Setup) (next : Plan Answer) (r : Result Made NoMemory)
+    → start_refusal setup ≡ None → IsMadeFor next r → IsMadeFor (with_start setup next) r
+start_passes setup next r fine made = rw fine made
+
+-- a run's reply that was made for the setup
+pub ran_made : (journal : Name) (given setup : Setup) (r : Result Made NoMemory) → given ≡ setup
+    → IfOk r (λ m. IsRunReply journal given (reply_of m)) → IsMadeFor (Tell (Ran journal setup)) r
+ran_made journal given setup (Ok m) same is = let P : Setup
+    → Type 0 = λ s. IsRunReply journal s (reply_of m) in subst P same is
+ran_made journal given setup (Err e) same is = tt

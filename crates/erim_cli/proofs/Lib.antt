@@ -1,7 +1,7 @@
 pub mod DeliveryLemmas
 pub mod DisasmLemmas
 pub mod InspectLemmas
-pub mod ListingLemmas
+pub mod PlanLemmas
 pub mod PromiseLemmas
 pub mod ResultLemmas
 pub mod TextLemmas

@@ -1,14 +1,15 @@
--- How a reply is delivered, and how a call of the program ends.
-use Rattle.std.specs.Prelude.{◌≡◌, ◌≢◌, ◌⊎◌, ℕ, Option, Some, None, Result, Ok, List, [], ◌∷◌, ◌++◌, codes}
+-- How a reply is delivered, and how a plan is carried out. Own.
+use Rattle.std.specs.Prelude.{◌≡◌, ◌⊎◌, ◌≤◌, ◌<◌, ℕ, Option, Some, None, List, [], ◌∷◌, ◌++◌}
+use Rattle.std.specs.Prelude.{length, codes}
 use Rattle.std.specs.Io.KnownBytes.{Appends, Keeps}
-use Rattle.erim_io.specs.Store.{Name, Files, holding, noted_save, KeepsOthers, LeavesHeld}
+use Rattle.erim_io.specs.Store.{Name, Files, Holds, holding, KeepsOthers}
 use Rattle.erim_io.specs.Sink.{HasRisen, AppendsPart}
-use Rattle.erim_io.specs.declared.store.SaveFault.{SaveFault}
 use Rattle.erim_io.specs.declared.store.Store.{Ghosts as StoreMeanings}
 use Rattle.erim_io.specs.declared.sink.Sink.{Ghosts as SinkMeanings}
-use Rattle.erim_defs.specs.Texts.{error_line}
-use Rattle.erim_defs.specs.Words.{Command, Inspect, Disasm, Run}
-use Rattle.erim_cli.specs.Replies.{Saved, Reply, image_of, IsReplyTo}
+use Rattle.erim_defs.specs.Output.Texts.{error_line}
+use Rattle.erim_cli.specs.Statuses.{code_of}
+use Rattle.erim_cli.specs.Replies.{Saved, Reply}
+use Rattle.erim_cli.specs.Plans.{Plan, Ask, Tell}
 
 -- what store and sink tell at a moment
 pub record World : Type 0 where
@@ -27,17 +28,6 @@ world of_store of_sink store out = record {
   faults = of_sink.faults out;
 }
 
--- ---- texts
-
--- a text was written whole, or a prefix of it where the count rose
-abbrev pub WritesLine : List ℕ → World → World → Type 0
-WritesLine text old new = Appends old.written new.written text ⊎ (HasRisen old.faults new.faults × AppendsPart old.written new.written text)
-
--- a text was put: whole, with its status, or a prefix with status 4 where the count of faults rose
-abbrev pub PutEnds : ℕ → List ℕ → Option (List ℕ) → Option (List ℕ) → ℕ → ℕ → ℕ → Type 0
-PutEnds status text old new faults_old faults_new result =
-    ((result ≡ status) × Appends old new text) ⊎ ((result ≡ 4) × HasRisen faults_old faults_new × AppendsPart old new text)
-
 -- ---- files
 
 -- what is held once a reply's file is saved
@@ -45,17 +35,7 @@ abbrev pub held_after : Option Saved → Option Files → Option Files
 held_after None held = held
 held_after (Some file) held = holding file.name file.bytes held
 
--- a reply's file was to be saved
-abbrev pub SavesHeld : Option Saved → Result (Unit {0}) SaveFault → Option Files → Option Files → Type 0
-SavesHeld None result old new = (result ≡ Ok tt) × (new ≡ old)
-SavesHeld (Some file) result old new = LeavesHeld result file.name file.bytes old new
-
--- the names of the failed saves then
-abbrev pub noted_file : Option Saved → Result (Unit {0}) SaveFault → List Name → List Name
-noted_file None result names = names
-noted_file (Some file) result names = noted_save result file.name names
-
--- the lists of faults stay, and what is held but for the file that was saved
+-- what is held is that file more, and the lists of faults stay
 pub record KeepsStore (save : Option Saved) (old new : World) : Type 0 where
   pub held : new.held ≡ held_after save old.held
   pub loads : new.failed_loads ≡ old.failed_loads
@@ -63,62 +43,84 @@ pub record KeepsStore (save : Option Saved) (old new : World) : Type 0 where
 
 -- ---- how a call ends
 
--- nothing was written and nothing saved
-pub record IsUntouched (old new : World) : Type 0 where
-  pub text : Keeps old.written new.written
-  pub store : KeepsStore None old new
-
--- the reply was written whole, and its file saved
+-- the reply was written whole and its file saved, and nothing failed
 pub record IsAnswered (reply : Reply) (old new : World) : Type 0 where
   pub text : Appends old.written new.written reply.text
   pub store : KeepsStore reply.save old new
+  pub puts : new.faults ≡ old.faults
 
--- a put failed: a prefix of the reply was written, and its file is saved
+-- a put failed: the count rose; a prefix of the reply was written, and its file is saved
 pub record IsCutShort (reply : Reply) (old new : World) : Type 0 where
-  pub risen : HasRisen old.faults new.faults
   pub text : AppendsPart old.written new.written reply.text
   pub store : KeepsStore reply.save old new
+  pub puts : HasRisen old.faults new.faults
+
+-- a line was put whole, or a prefix of it where the count rose
+abbrev pub PutsLine : List ℕ → World → World → Type 0
+PutsLine text old new =
+    (Appends old.written new.written text × (new.faults ≡ old.faults))
+    ⊎ (AppendsPart old.written new.written text × HasRisen old.faults new.faults)
 
 -- the load of a name failed: it joined the list, and a line says so
 pub record HasNotLoaded (name : Name) (old new : World) : Type 0 where
   pub loads : new.failed_loads ≡ old.failed_loads ++ name ∷ []
   pub saves : new.failed_saves ≡ old.failed_saves
   pub held : new.held ≡ old.held
-  pub line : WritesLine (error_line (codes "load failed")) old new
+  pub line : PutsLine (error_line (codes "load failed")) old new
 
 -- the save under a name failed: it joined the list, and a line says so
 pub record HasNotSaved (name : Name) (old new : World) : Type 0 where
   pub loads : new.failed_loads ≡ old.failed_loads
   pub saves : new.failed_saves ≡ old.failed_saves ++ name ∷ []
   pub held : KeepsOthers name old.held new.held
-  pub line : WritesLine (error_line (codes "save failed")) old new
+  pub line : PutsLine (error_line (codes "save failed")) old new
 
--- the name that a command loads
-abbrev pub IsLoadedBy : Option Command → Name → Type 0
-IsLoadedBy None name = ⊥
-IsLoadedBy (Some command) name = name ≡ image_of command
+-- the save of a reply's file failed
+abbrev pub HasNotKept : Option Saved → World → World → Type 0
+HasNotKept None old new = ⊥
+HasNotKept (Some file) old new = HasNotSaved file.name old new
 
--- the name that a command saves
-abbrev pub IsSavedBy : Option Command → Name → Type 0
-IsSavedBy None name = ⊥
-IsSavedBy (Some (Inspect image)) name = ⊥
-IsSavedBy (Some (Disasm image)) name = ⊥
-IsSavedBy (Some (Run image journal)) name = name ≡ journal
+-- nothing was written, nothing saved, and nothing failed
+pub record IsUntouched (old new : World) : Type 0 where
+  pub text : Keeps old.written new.written
+  pub store : KeepsStore None old new
+  pub puts : new.faults ≡ old.faults
 
--- a load or a save of the command's names failed, or a put of its reply
-abbrev pub HasFailed : Option Command → World → World → Type 0
-HasFailed command old new =
-    ((name : Name) × IsLoadedBy command name × HasNotLoaded name old new)
-    ⊎ (((name : Name) × IsSavedBy command name × HasNotSaved name old new)
-    ⊎ ((reply : Reply) × IsReplyTo command old.held reply × IsCutShort reply old new))
+-- a reply was delivered: whole, with its status; 4 where its save or a put of it failed; 5 where
+-- memory ran out
+abbrev pub Delivers : Reply → World → World → ℕ → Type 0
+Delivers reply old new status =
+    ((status ≡ code_of reply.status) × IsAnswered reply old new)
+    ⊎ (((status ≡ 4) × (HasNotKept reply.save old new ⊎ IsCutShort reply old new))
+    ⊎ ((status ≡ 5) × IsUntouched old new))
 
--- the command's reply with its status
-abbrev pub IsReplied : Option Command → World → World → ℕ → Type 0
-IsReplied command old new status =
-    (reply : Reply) × IsReplyTo command old.held reply × (status ≡ reply.status) × IsAnswered reply old new
+-- ---- how a plan is carried out, by the replies that its end may have
 
--- how a call ends, by its status
-pub record Ends (command : Option Command) (old new : World) (status : ℕ) : Type 0 where
-  pub memory : status ≡ 5 → IsUntouched old new
-  pub failed : status ≡ 4 → HasFailed command old new
-  pub replied : status ≢ 4 → status ≢ 5 → IsReplied command old new status
+-- a file of more bytes than the limit is held under a name
+abbrev pub HoldsMore : Name → ℕ → Option Files → Type 0
+HoldsMore name limit held =
+    (bytes : List ℕ) × Holds held name (Some bytes) × (limit < length bytes)
+
+-- a reply of an answer was delivered
+abbrev pub Answers : {A : Type 0} → (A → Reply → Type 0) → A → World → World → ℕ → Type 0
+Answers IsAnswer a old new status =
+    (reply : Reply) × IsAnswer a reply × Delivers reply old new status
+
+abbrev pub Carries : {A : Type 0} → (A → Reply → Type 0) → Plan A → World → World → ℕ → Type 0
+Carries IsAnswer (Tell a) old new status =
+    -- its end was answered
+    Answers IsAnswer a old new status
+    -- memory ran out
+    ⊎ ((status ≡ 5) × IsUntouched old new)
+Carries IsAnswer (Ask name limit too_large next) old new status =
+    -- the file was loaded, and the plan went on
+    ((bytes : List ℕ)
+    × Holds old.held name (Some bytes)
+    × (length bytes ≤ limit)
+    × Carries IsAnswer (next bytes) old new status)
+    -- it was too large
+    ⊎ ((HoldsMore name limit old.held × Answers IsAnswer too_large old new status)
+    -- its load failed
+    ⊎ (((status ≡ 4) × HasNotLoaded name old new)
+    -- memory ran out
+    ⊎ ((status ≡ 5) × IsUntouched old new)))

@@ -1,8 +1,8 @@
-pub mod Commands
 pub mod Statuses
 pub mod Replies
+pub mod Plans
+pub mod Commands
 pub mod Delivery
-pub mod Deliveries
-pub mod Listing
+pub mod CallParts
 pub mod Running
 pub mod Promises

@@ -1,7 +1,7 @@
 -- What is known while a process runs.
 use Rattle.std.specs.Prelude.{◌≡◌, ℕ, ◌<◌, true, None, List, slice_get, IsSomeAnd}
 use Rattle.erim_defs.specs.declared.machine.Thread.{Thread}
-use Rattle.erim_defs.specs.State.{State, any_live}
+use Rattle.erim_defs.specs.Machine.State.{State, any_live}
 
 -- the thread of this number is live
 abbrev pub IsLiveAt : List Thread → ℕ → Type 0

@@ -1,7 +1,8 @@
 //! The bytes of a journal as it is saved.
 
 ghost use Rattle.std.specs.Prelude.{◌≡◌, ◌++◌, ◌≤◌, length, OnOk, IfOk};
-ghost use Rattle.erim_defs.specs.Journal.{entry_bytes, journal_text};
+ghost use Rattle.erim_defs.specs.Output.Journal.{IsJournal, JournalValue, entry_bytes};
+ghost use Rattle.erim_defs.specs.Output.Journal.{journal_text};
 
 use erim_defs::{Entry, NoMemory};
 use std::alloc::{AllocError, Global};
@@ -15,16 +16,18 @@ fn push_entry(bytes: &mut Vec<u8>, entry: &Entry) -> Result<(), AllocError>
     bytes.extend_from_slice(&entry.count.to_le_bytes())
 }
 
-/// The bytes of a journal of at most 4,194,304 entries.
-#[tactic(auto, unfolding(erim_defs::specs::Journal::journal_text))]
+/// The bytes of a journal.
+#[tactic(auto, unfolding(erim_defs::specs::Output::Journal::journal_text))]
 pub fn write_journal(
     alloc: Global,
     entries: &[Entry],
     budget: u32,
     frames: u32,
 ) -> Result<Vec<u8>, NoMemory>
-    requires { length entries.now ≤ 4194304 }
-    ensures { IfOk result (λ bytes. bytes.items ≡ journal_text budget frames entries.now) }
+    requires { IsJournal (record { budget = budget; frames = frames; entries = entries.now }) }
+    ensures { let journal : JournalValue =
+        record { budget = budget; frames = frames; entries = entries.now } in
+        IfOk result (λ bytes. bytes.items ≡ journal_text journal) }
 {
     let mut bytes = Vec::from_slice(alloc, b"ERIMJNL1")?;
     bytes.extend_from_slice(&budget.to_le_bytes())?;

@@ -1,22 +1,35 @@
 //! What a command answers.
 
-/// How the program ends.
+ghost use Rattle.std.specs.Prelude.{◌≡◌};
+ghost use Rattle.erim_cli.specs.Statuses.{code_of};
+
+/// How the program ends where nothing failed and memory sufficed.
 #[derive(Clone, Copy, Debug, PartialEq, Eq)]
 pub enum Status {
     /// The command did its work.
     Done = 0,
-    /// It did, and the unsafe list isn't empty, or the process ended by a fault or for a refused page.
+    /// It did, and the unsafe list isn't empty, or the process ended by a fault or for a refused
+    /// page.
     AtFault = 1,
     /// The words mean no command.
     NotUnderstood = 2,
     /// The image is too large, isn't accepted, or can't start.
-    Refused = 3,
-    /// A load, a save or a put failed.
-    Failed = 4,
-    /// Memory ran out.
-    OutOfMemory = 5,
+    ImageRefused = 3,
     /// The process hasn't ended, and its budget is spent.
     Spent = 7,
+}
+
+/// The program's answer where a load, a save or a put failed.
+pub const FAILED: u8 = 4;
+
+/// The program's answer where memory ran out.
+pub const OUT_OF_MEMORY: u8 = 5;
+
+/// The program's answer at a status.
+pub fn code_of(status: Status) -> u8
+    ensures { result ≡ code_of status }
+{
+    status as u8
 }
 
 /// A file to save.

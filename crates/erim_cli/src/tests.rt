@@ -2,6 +2,7 @@
 
 mod calling;
 mod delivering;
+mod early_faults;
 mod inspecting;
 mod laying;
 mod printing;

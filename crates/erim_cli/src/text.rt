@@ -3,7 +3,8 @@
 ghost use Rattle.std.specs.Prelude.{◌≡◌, ◌++◌, OnOk, IfOk, codes};
 ghost use Rattle.std.specs.Fmt.{decimal};
 ghost use Rattle.std.specs.String.{string_bytes};
-ghost use Rattle.erim_defs.specs.Texts.{kind_text, unsafe_line, fault_text, error_line, address_text, pkru_text};
+ghost use Rattle.erim_defs.specs.Output.Texts.{kind_text, unsafe_line, fault_text, error_line};
+ghost use Rattle.erim_defs.specs.Output.Texts.{address_text, pkru_text};
 ghost use Rattle.erim_cli.specs.Replies.{start_text};
 
 use erim_defs::{Found, ImageFault, NoMemory, SeqKind};
@@ -25,7 +26,7 @@ pub fn pkru_text(alloc: Global, pkru: u32) -> Result<String, AllocError>
 }
 
 /// The name of a kind of sequence.
-pub fn kind_name(kind: SeqKind) -> &'static str
+pub fn kind_text(kind: SeqKind) -> &'static str
     ensures { result.now ≡ kind_text kind }
 {
     match kind {
@@ -34,26 +35,27 @@ pub fn kind_name(kind: SeqKind) -> &'static str
 }
 
 /// Appends the line that names an unsafe sequence.
-#[tactic(auto, unfolding(erim_defs::specs::Texts::unsafe_line))]
+#[tactic(auto, unfolding(erim_defs::specs::Output::Texts::unsafe_line))]
 pub fn push_unsafe_line(text: &mut String, found: &Found) -> Result<(), NoMemory>
     ensures { OnOk result (string_bytes text.new ≡ string_bytes text.old ++ unsafe_line found.now) }
 {
-    let kind = kind_name(found.kind);
+    let kind = kind_text(found.kind);
     let at = found.at;
     writeln!(text, "unsafe {kind} at 0x{at:012x}")?;
     Ok(())
 }
 
 /// The line that says what is wrong with one of the things of an image.
-#[tactic(auto, unfolding(erim_defs::specs::Texts::error_line))]
+#[tactic(auto, unfolding(erim_defs::specs::Output::Texts::error_line))]
 fn numbered(alloc: Global, thing: &str, index: u32, wrong: &str) -> Result<String, AllocError>
-    ensures { IfOk result (λ text. string_bytes text ≡ error_line (codes "image " ++ thing.now ++ codes " " ++ decimal index ++ wrong.now)) }
+    ensures { IfOk result (λ text. string_bytes text
+        ≡ error_line (codes "image " ++ thing.now ++ codes " " ++ decimal index ++ wrong.now)) }
 {
     format!(in alloc; "erim: image {thing} {index}{wrong}\n")
 }
 
 /// The line that names the fault of an image, unless memory runs out.
-#[tactic(auto, unfolding(erim_defs::specs::Texts::error_line))]
+#[tactic(auto, unfolding(erim_defs::specs::Output::Texts::error_line))]
 fn named_fault(alloc: Global, fault: &ImageFault) -> Result<String, AllocError>
     ensures { IfOk result (λ text. string_bytes text ≡ error_line (fault_text fault.now)) }
 {
@@ -76,6 +78,7 @@ fn named_fault(alloc: Global, fault: &ImageFault) -> Result<String, AllocError>
         ImageFault::EntryNotTrusted { index } => numbered(alloc, "record", *index, " entry"),
         ImageFault::EntryPoint => format!(in alloc; "erim: image entry point\n"),
         ImageFault::NotYet => format!(in alloc; "erim: image not yet\n"),
+        // No caller names want of memory, which has a status and no line.
         ImageFault::Memory => format!(in alloc; "erim: out of memory\n"),
     }
 }
@@ -88,26 +91,28 @@ pub fn fault_line(alloc: Global, fault: &ImageFault) -> Result<String, NoMemory>
 }
 
 /// The line that says how many frames an image needs.
-#[tactic(auto, unfolding(erim_defs::specs::Texts::error_line))]
+#[tactic(auto, unfolding(erim_defs::specs::Output::Texts::error_line))]
 fn frames_line(alloc: Global, needed: u32) -> Result<String, AllocError>
-    ensures { IfOk result (λ text. string_bytes text ≡ error_line (start_text (StartFault.TooFewFrames needed))) }
+    ensures { IfOk result (λ text. string_bytes text
+        ≡ error_line (start_text (StartFault.TooFewFrames needed))) }
 {
     format!(in alloc; "erim: image needs {needed} frames\n")
 }
 
 /// The line that names the cause that keeps an image from starting, unless memory runs out.
-#[tactic(auto, unfolding(erim_defs::specs::Texts::error_line))]
+#[tactic(auto, unfolding(erim_defs::specs::Output::Texts::error_line))]
 fn named_start_fault(alloc: Global, fault: &StartFault) -> Result<String, AllocError>
     ensures { IfOk result (λ text. string_bytes text ≡ error_line (start_text fault.now)) }
 {
     match fault {
         StartFault::TrustedUnsafe { found } => {
-            let kind = kind_name(found.kind);
+            let kind = kind_text(found.kind);
             let at = address_text(alloc, found.at)?;
             format!(in alloc; "erim: image trusted {kind} at {at}\n")
         }
         StartFault::TooFewFrames { needed } => frames_line(alloc, *needed),
         StartFault::NotYet => format!(in alloc; "erim: image not yet\n"),
+        // As above.
         StartFault::Memory => format!(in alloc; "erim: out of memory\n"),
     }
 }

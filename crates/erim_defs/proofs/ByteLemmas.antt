@@ -1,6 +1,6 @@
 -- Lists of bytes.
 use Rattle.std.proofs.Common.{ℕ, suc, ◌<◌, List, [], ◌∷◌, get_or}
-use Rattle.erim_defs.specs.Parts.{AreBytes}
+use Rattle.erim_defs.specs.Encoding.Parts.{AreBytes}
 
 -- a list whose places all hold bytes
 pub bytes_of : (s : List ℕ) → ((i : ℕ) → get_or s i 0 < 256) → AreBytes s

@@ -1,14 +1,55 @@
+pub mod AcceptedLemmas
 pub mod ByteLemmas
+mod CallRows
 mod CanonicalRows
+mod CheckRows
 pub mod CodeLemmas
+mod ConditionRows
 pub mod CountLemmas
+mod DisasmRows
+pub mod FaultLemmas
+pub mod FirstUnsafeLemmas
+mod FlagRows
 pub mod ImageLemmas
+mod ImageRows
+mod InvariantRows
+mod IsolationRows
+pub mod JournalLemmas
+mod JournalRows
 mod LayImageRows
+pub mod LossLemmas
+mod MemoryRows
+mod NotationRows
 pub mod OccurrenceLemmas
 pub mod PageLemmas
-mod DisasmRows
-mod NotationRows
-mod Rows
+pub mod PlaceLemmas
+pub mod RecordLemmas
+mod ReplayRows
+mod ReportRows
 pub mod SafeLemmas
+pub mod SegmentLemmas
+mod SequenceRows
+pub mod SmallMachine
+mod StartRows
+mod StepRows
 pub mod TextLemmas
+mod TextRows
+mod TrustedRows
 pub mod UnsafeLemmas
+mod WordRows
+pub mod PartLemmas
+pub mod OperandLemmas
+pub mod TableLemmas
+pub mod LineLemmas
+pub mod OpcodeMapLemmas
+pub mod TailLemmas
+pub mod BodyLemmas
+pub mod StopLemmas
+pub mod BodyExact
+pub mod FrontLemmas
+pub mod EncodingLemmas
+pub mod DecodeLemmas
+pub mod FieldLemmas
+pub mod LengthLemmas
+pub mod CheckEncodings
+pub mod Exact

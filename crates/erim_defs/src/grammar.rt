@@ -1,6 +1,10 @@
-//! What the table of instructions is made of: its rows, and the fields that a spelling has (SDM volume 2, "Instruction
-//! format"). E and G are the operands that the SDM's opcode map calls so: r/m and reg of a ModRM byte. In names A is the
-//! accumulator, O the register in the opcode, and I a number.
+//! What the table of opcodes is made of: its rows, and the fields of an encoding (SDM volume 2,
+//! chapter 2, "Instruction format"). A form's name ends with its operand encoding, the code in the
+//! column "Op/En" of the table "Instruction Operand Encoding" on the instruction's page (SDM volume
+//! 2, chapters 3 to 5): MR is r/m and then reg of the ModRM byte, RM reg and then r/m, MI r/m and
+//! an immediate, RMI all three, M r/m alone, M1 r/m and the number 1, MC r/m and CL, I the
+//! accumulator or nothing and an immediate, O the register in the opcode, OI that and an immediate,
+//! D a relative offset, and ZO no operand.
 
 use crate::insn::Place;
 
@@ -15,23 +19,25 @@ pub struct Rex {
     pub b: bool,
 }
 
-/// What stands before an opcode.
+/// What stands before an opcode: legacy prefixes and REX (SDM volume 2, "Instruction prefixes",
+/// "REX prefixes").
 #[derive(Clone, Copy, Debug, PartialEq, Eq)]
 pub struct Lead {
     /// How many bytes.
     pub skip: u8,
     /// F0 is among them.
     pub lock: bool,
-    /// 66 is among them.
-    pub sized: bool,
+    /// 66, the operand-size prefix, is among them.
+    pub size_prefix: bool,
     /// F3 is among them.
     pub f3: bool,
     pub rex: Rex,
 }
 
-/// Which instruction a row spells, and of which operands. A number ends the spelling where one is named.
+/// Which instruction a row encodes, and of which operands. An immediate or a relative offset ends
+/// the encoding.
 #[derive(Clone, Copy, Debug, PartialEq, Eq)]
-pub enum Verb {
+pub enum Form {
     Arithmetic(Arithmetic),
     Move(Move),
     Flow(Flow),
@@ -42,146 +48,146 @@ pub enum Verb {
 /// Arithmetic, logic and bits.
 #[derive(Clone, Copy, Debug, PartialEq, Eq)]
 pub enum Arithmetic {
-    /// Arithmetic and logic of E and G, to E.
-    AluEG,
-    /// Arithmetic and logic of G and E, to G.
-    AluGE,
-    /// Arithmetic and logic of the accumulator and a number, to the accumulator.
-    AluAI,
-    /// Arithmetic and logic of E and a number, to E.
-    AluEI,
-    /// TEST of E and G.
-    TestEG,
-    /// TEST of the accumulator and a number.
-    TestAI,
-    /// TEST of E and a number.
-    TestEI,
-    /// IMUL of G and E, to G.
-    ImulGE,
-    /// IMUL of E and a number, to G.
-    ImulGEI,
-    /// Arithmetic and logic of E alone.
-    UnaryE,
-    /// A shift of E by a number.
-    ShiftI,
-    /// A shift of E by 1.
-    ShiftOne,
-    /// A shift of E by CL.
-    ShiftCl,
-    /// BT of E and a number.
-    BtI,
+    /// ADD, OR, ADC, SBB, AND, SUB, XOR or CMP of r/m and reg, to r/m.
+    AluMr,
+    /// The same of reg and r/m, to reg.
+    AluRm,
+    /// The same of the accumulator and an immediate, to the accumulator.
+    AluI,
+    /// The same of r/m and an immediate, to r/m.
+    AluMi,
+    /// TEST of r/m and reg.
+    TestMr,
+    /// TEST of the accumulator and an immediate.
+    TestI,
+    /// TEST of r/m and an immediate.
+    TestMi,
+    /// IMUL of reg and r/m, to reg.
+    ImulRm,
+    /// IMUL of r/m and an immediate, to reg.
+    ImulRmi,
+    /// NOT, NEG, INC or DEC of r/m.
+    UnaryM,
+    /// SHL, SHR or SAR of r/m by an immediate.
+    ShiftMi,
+    /// The same by 1.
+    ShiftM1,
+    /// The same by CL.
+    ShiftMc,
+    /// BT of r/m and an immediate.
+    BtMi,
 }
 
 /// Moves, with extension or on a condition.
 #[derive(Clone, Copy, Debug, PartialEq, Eq)]
 pub enum Move {
-    /// G to E.
-    MovEG,
-    /// E to G.
-    MovGE,
-    /// A number to the byte register in the opcode.
-    MovByteOI,
-    /// A number to the register in the opcode.
-    MovOI,
-    /// A number to E.
-    MovEI,
-    /// A number of 8 bytes to the register in the opcode.
-    MovWideOI,
-    /// The address of E to G.
-    Lea,
-    /// E of 4 bytes, signed, to G.
-    MovSxd,
-    /// E of 1 byte to G.
-    MovZxByte,
-    /// E of 2 bytes to G.
-    MovZxPair,
-    /// E of 1 byte, signed, to G.
-    MovSxByte,
-    /// E of 2 bytes, signed, to G.
-    MovSxPair,
+    /// MOV of reg to r/m.
+    MovMr,
+    /// MOV of r/m to reg.
+    MovRm,
+    /// MOV of an immediate to the byte register in the opcode.
+    MovByteOi,
+    /// MOV of an immediate to the register in the opcode.
+    MovOi,
+    /// MOV of an immediate to r/m.
+    MovMi,
+    /// MOV of an immediate of 8 bytes to the register in the opcode.
+    MovWideOi,
+    /// The address of r/m to reg.
+    LeaRm,
+    /// r/m of 4 bytes, signed, to reg.
+    MovSxdRm,
+    /// r/m of 1 byte to reg.
+    MovZxByteRm,
+    /// r/m of 2 bytes to reg.
+    MovZxWordRm,
+    /// r/m of 1 byte, signed, to reg.
+    MovSxByteRm,
+    /// r/m of 2 bytes, signed, to reg.
+    MovSxWordRm,
     /// CWDE or CDQE.
-    Widen,
+    WidenZo,
     /// CDQ or CQO.
-    Spread,
-    /// E to G on the condition in the opcode.
-    Cmov,
-    /// The condition in the opcode to E of 1 byte.
-    Set,
+    SpreadZo,
+    /// r/m to reg on the condition in the opcode.
+    CmovRm,
+    /// The condition in the opcode to r/m of 1 byte.
+    SetM,
 }
 
 /// Jumps, calls and the stack.
 #[derive(Clone, Copy, Debug, PartialEq, Eq)]
 pub enum Flow {
     /// A jump on the condition in the opcode.
-    Jcc,
+    JccD,
     /// A jump.
-    Jmp,
+    JmpD,
     /// A call.
-    Call,
-    /// A jump to the address in E.
-    JmpTo,
-    /// A call of the address in E.
-    CallTo,
-    Ret,
+    CallD,
+    /// A jump to the address in r/m.
+    JmpM,
+    /// A call of the address in r/m.
+    CallM,
+    RetZo,
     /// PUSH of the register in the opcode.
     PushO,
-    /// PUSH of a number.
+    /// PUSH of an immediate.
     PushI,
-    /// PUSH of E.
-    PushE,
+    /// PUSH of r/m.
+    PushM,
     /// POP to the register in the opcode.
-    Pop,
-    Leave,
+    PopO,
+    LeaveZo,
 }
 
-/// Exchanges of E and G.
+/// Exchanges of r/m and reg.
 #[derive(Clone, Copy, Debug, PartialEq, Eq)]
 pub enum Exchange {
-    /// XCHG.
-    Xchg,
-    /// CMPXCHG, to E.
-    Cmpxchg,
-    /// XADD, to E.
-    Xadd,
+    /// XCHG, to both.
+    XchgMr,
+    /// CMPXCHG, to r/m.
+    CmpxchgMr,
+    /// XADD, to both.
+    XaddMr,
 }
 
 /// System instructions, fences and NOP.
 #[derive(Clone, Copy, Debug, PartialEq, Eq)]
 pub enum System {
-    Syscall,
-    Wrpkru,
-    Rdpkru,
-    /// XRSTOR from E.
-    Xrstor,
-    /// The fence that reg numbers.
-    Fence,
+    SyscallZo,
+    WrpkruZo,
+    RdpkruZo,
+    /// XRSTOR from r/m.
+    XrstorM,
+    /// The fence that reg numbers, an opcode extension.
+    FenceZo,
     Nop,
 }
 
-/// What a row asks for beside its opcode.
+/// What a row of the table says beside its opcodes.
 #[derive(Clone, Copy, Debug, PartialEq, Eq)]
 pub struct Row {
-    pub verb: Verb,
-    /// Bytes of the number that ends it.
+    pub form: Form,
+    /// Bytes of the immediate or relative offset that ends it.
     pub imm: u8,
     /// F0 may stand before it, where its destination is in memory.
     pub locks: bool,
     /// 66 may stand before it.
-    pub sized: bool,
+    pub size_prefix: bool,
     /// REX.B may not be set.
     pub low: bool,
 }
 
-/// What a spelling has, but for the number that ends it.
+/// What an encoding has, but for its immediate.
 #[derive(Clone, Copy, Debug, PartialEq, Eq)]
 pub struct Fields {
-    /// The opcode, without its 0F.
+    /// The opcode, without the escape opcode 0F.
     pub op: u8,
     /// The ModRM byte, or 0.
     pub m: u8,
     pub rex: Rex,
     pub lock: bool,
-    /// What the ModRM byte names as E.
+    /// What r/m names, with SIB and displacement.
     pub place: Place,
 }
 

@@ -45,7 +45,7 @@ pub enum Place {
 pub enum Src {
     /// What stands at a place.
     From(Place),
-    /// A number in the instruction, signed.
+    /// An immediate, signed.
     Imm(i32),
 }
 
@@ -82,14 +82,14 @@ pub enum UnaryOp {
 /// How far to shift.
 #[derive(Clone, Copy, Debug, PartialEq, Eq)]
 pub enum By {
-    /// By a number in the instruction.
+    /// By an immediate.
     Count(u8),
     /// By what CL holds.
     Cl,
 }
 
-/// An instruction. Registers and conditions go by their numbers, `rel` counts from the next instruction, and `lock`
-/// says whether F0 stands before it.
+/// An instruction. Registers and conditions go by their numbers, `rel` is the relative offset from
+/// the next instruction, and `lock` says whether F0 stands before it.
 #[derive(Clone, Copy, Debug, PartialEq, Eq)]
 pub enum Insn {
     /// Arithmetic and logic of two operands.
@@ -113,7 +113,7 @@ pub enum Insn {
         r: Place,
         lock: bool,
     },
-    /// MOV. A signed number is extended to the width.
+    /// MOV. An immediate is extended with its sign to the width.
     Mov {
         w: Width,
         dst: Place,
@@ -157,7 +157,7 @@ pub enum Insn {
         from: u8,
         src: Place,
     },
-    /// IMUL to a register: of itself and `a`, or of `a` and the number `b`.
+    /// IMUL to a register: of itself and `a`, or of `a` and the immediate `b`.
     Imul {
         w: Width,
         r: u8,
@@ -274,7 +274,7 @@ pub enum Decoded {
 
 /// What stands at an address of a code.
 #[derive(Clone, Copy, Debug, PartialEq, Eq)]
-pub enum Fetched {
+pub enum FetchOutcome {
     /// An instruction of so many bytes, `skip` of them before its opcode.
     Runs { insn: Insn, len: u8, skip: u8 },
     /// More bytes are needed, from this absent address on.

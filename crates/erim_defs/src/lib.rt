@@ -1,19 +1,36 @@
 //! The types that several crates share, and in `specs/` the definitions that all contracts cite.
+//!
+//! The definitions stand in folders by what rests on them: `Inspection` (codes, the trusted part,
+//! safe and unsafe sequences, images), `Encoding` (the grammar of instructions and their notation),
+//! `Machine` (pages, steps, the start, replays, isolation) and `Output` (reports, journals, made
+//! images). `proofs/` computes them on rows with values from outside, and holds the lemmas that
+//! two crates or more need. Every other crate uses this one; of its functions `one_journal` is a
+//! law (the bytes of a journal determine it), the others are methods of the shared types.
 #![tactic(auto)]
 
+pub mod elf;
 mod fault;
 mod found;
 pub mod grammar;
 mod insn;
+mod journal;
+pub mod limits;
+pub mod linux;
 mod machine;
 mod memory;
+pub mod note;
+pub mod page;
+pub mod register;
 mod segment;
 mod trust;
 
 pub use fault::ImageFault;
 pub use found::{Found, SeqKind};
-pub use insn::{AluOp, Base, By, Decoded, Fetched, Insn, Mem, Place, ShiftOp, Src, UnaryOp, Width};
-pub use machine::{Access, Cause, End, Entry, Escape, Flags, Rights, Thread};
+pub use insn::{
+    AluOp, Base, By, Decoded, FetchOutcome, Insn, Mem, Place, ShiftOp, Src, UnaryOp, Width,
+};
+pub use journal::one_journal;
+pub use machine::{Access, Cause, End, Entry, Escape, Flags, Keys, Rights, Thread};
 pub use memory::NoMemory;
 pub use segment::Segment;
 pub use trust::{Span, Trust};

@@ -1,4 +1,8 @@
-//! What the machine is made of: rights of pages, threads, faults, ends, and the entries of a journal.
+//! What the machine is made of: rights of pages, threads, faults, ends, and the entries of a
+//! journal.
+
+ghost use Rattle.std.specs.Prelude.{◌≡◌};
+ghost use Rattle.erim_defs.specs.Machine.Pages.{asks_exec, asks_write, published_rights};
 
 use crate::found::Found;
 
@@ -15,6 +19,44 @@ pub struct Rights {
     pub asked: u8,
     /// Its protection key.
     pub key: u8,
+}
+
+impl Rights {
+    /// Does the page ask PROT_WRITE, bit 1?
+    pub fn asks_write(&self) -> bool
+        ensures { result ≡ asks_write self.now.asked }
+    {
+        self.asked / 2 % 2 == 1
+    }
+
+    /// Does the page ask PROT_EXEC, bit 2?
+    pub fn asks_exec(&self) -> bool
+        ensures { result ≡ asks_exec self.now.asked }
+    {
+        self.asked / 4 % 2 == 1
+    }
+
+    /// The rights of the page once it is published: it can be fetched, and isn't writable.
+    pub fn published(&self) -> Rights
+        ensures { result ≡ published_rights self.now }
+    {
+        Rights {
+            exec: true,
+            write: false,
+            ..*self
+        }
+    }
+}
+
+/// Which protection keys are allocated: key k where bit k is set. Keys are below 16.
+#[derive(Clone, Copy, Debug, PartialEq, Eq)]
+pub struct Keys {
+    pub taken: u16,
+}
+
+impl Keys {
+    /// The keys at the start: 0, and the trusted key 1.
+    pub const FIRST: Keys = Keys { taken: 3 };
 }
 
 /// The flags that instructions compute (SDM volume 1, "EFLAGS register").

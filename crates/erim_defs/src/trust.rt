@@ -1,7 +1,8 @@
 //! The trusted part of a program.
 
 ghost use Rattle.std.specs.Prelude.{◌≡◌, ◌≤◌, ◌<◌};
-ghost use Rattle.erim_defs.specs.Trust.{in_text_of, is_entry_of};
+ghost use Rattle.erim_defs.specs.Inspection.Check.{closed_value};
+ghost use Rattle.erim_defs.specs.Inspection.Trust.{in_text_of, is_entry_of};
 
 use std::marker::Model;
 
@@ -22,7 +23,7 @@ pub struct Trust {
 }
 
 impl Model for Trust {
-    ghost use Rattle.erim_defs.specs.Trust.{TrustValue};
+    ghost use Rattle.erim_defs.specs.Inspection.Trust.{TrustValue};
 
     ghost Value = { TrustValue };
 
@@ -35,6 +36,13 @@ impl Trust {
         ensures { result ≡ record { texts = texts.items; entries = entries.items } }
     {
         Trust { texts, entries }
+    }
+
+    /// The PKRU of a closed thread.
+    pub fn closed_value(&self) -> u32
+        ensures { result ≡ closed_value self.now }
+    {
+        0x5555_5554
     }
 
     /// Is the address in trusted text?

@@ -1,10 +1,11 @@
 -- A sink in memory: its room, what it was given, and which of its calls fail. Own.
-use Rattle.std.specs.Prelude.{ℕ, ◌+◌, ◌-◌, ◌^◌, ◌==◌, ◌&&◌, ◌||◌, nat_lt, min, Bool, Result, Ok, Err, List, ◌++◌, take, length, if◌then◌else◌}
+use Rattle.std.specs.Prelude.{ℕ, ◌+◌, ◌-◌, ◌^◌, ◌==◌, ◌&&◌, ◌||◌, nat_lt, min, Bool, Result, Ok}
+use Rattle.std.specs.Prelude.{Err, List, ◌++◌, take, length, if◌then◌else◌}
 use Rattle.erim_io.specs.declared.sink.Failed.{Failed}
 use Rattle.erim_io.specs.MemStore.{is_listed, next_call}
 
--- what was written, how many bytes there is room for in all, the numbers of the calls that fail, how
--- many calls there were, and how many of them failed
+-- what was written, how many bytes there is room for in all, the numbers of the calls that fail,
+-- how many calls there were, and how many of them failed
 pub record MemSinkValue : Type 0 where
   pub written : List ℕ
   pub room : ℕ
@@ -30,4 +31,7 @@ abbrev pub after_put : MemSinkValue → List ℕ → MemSinkValue
 after_put sink bytes =
     if refuses sink bytes
     then record sink { calls = next_call sink.calls; faults = min (sink.faults + 1) (2 ^ 64 - 1) }
-    else record sink { calls = next_call sink.calls; written = sink.written ++ take (taken_of sink bytes) bytes }
+    else record sink {
+      calls = next_call sink.calls;
+      written = sink.written ++ take (taken_of sink bytes) bytes;
+    }

@@ -1,5 +1,6 @@
 -- What a store holds by name, and what a load or a save says of it. Own.
-use Rattle.std.specs.Prelude.{◌≡◌, ℕ, ◌<◌, Bool, true, false, Option, Some, None, Result, Ok, Err, List, [], ◌∷◌, ◌++◌, length, bytes_eq, IsSomeAnd, ⊤, if◌then◌else◌}
+use Rattle.std.specs.Prelude.{◌≡◌, ℕ, ◌<◌, Bool, true, false, Option, Some, None, Result, Ok, Err}
+use Rattle.std.specs.Prelude.{List, [], ◌∷◌, ◌++◌, length, bytes_eq, IsSomeAnd, ⊤, if◌then◌else◌}
 use Rattle.erim_io.specs.declared.store.LoadFault.{LoadFault}
 use Rattle.erim_io.specs.declared.store.LoadFault.TheVariants.{Failed, TooLarge, Memory}
 use Rattle.erim_io.specs.declared.store.SaveFault.{SaveFault}
@@ -66,10 +67,12 @@ abbrev pub KeepsOthers : Name → Option Files → Option Files → Type 0
 KeepsOthers name None None = ⊤
 KeepsOthers name None (Some files) = ⊥
 KeepsOthers name (Some files) None = ⊥
-KeepsOthers name (Some files) (Some later) = (n : Name) → bytes_eq name n ≡ false → later n ≡ files n
+KeepsOthers name (Some files) (Some later) =
+    (n : Name) → bytes_eq name n ≡ false → later n ≡ files n
 
 -- what a save leaves: the bytes under the name; where it failed, nothing is said of that name alone
-abbrev pub LeavesHeld : Result (Unit {0}) SaveFault → Name → List ℕ → Option Files → Option Files → Type 0
+abbrev pub LeavesHeld : Result (Unit {0}) SaveFault → Name → List ℕ → Option Files → Option Files
+    → Type 0
 LeavesHeld (Ok done) name bytes old new = new ≡ holding name bytes old
 LeavesHeld (Err saves.Failed) name bytes old new = KeepsOthers name old new
 LeavesHeld (Err saves.Memory) name bytes old new = new ≡ old

@@ -1,15 +1,17 @@
 //! A store over the system's files.
 
-ghost use Rattle.std.specs.Prelude.{◌≡◌, ◌≤◌, [], None, map, length, string_bytes, OnOk, OnErr, IfErr};
-ghost use Rattle.std.specs.Io.KnownBytes.{Consumes, IsAtEnd};
+ghost use Rattle.std.specs.Prelude.{◌≡◌, ◌≤◌, [], None, map, length, string_bytes, OnOk, OnErr};
+ghost use Rattle.std.specs.Prelude.{IfErr};
+ghost use Rattle.std.specs.Io.KnownBytes.{Appends, Consumes, IsAtEnd};
 ghost use Rattle.erim_io.specs.Store.{IsTooLong};
+ghost use Rattle.erim_io.specs.declared.store.SaveFault.TheVariants as saves;
 ghost use Rattle.erim_io.specs.FileStore.{FileStoreValue, HasMore};
 
 use crate::notes::{note_failed, room_to_note};
 use crate::store::{LoadFault, SaveFault, Store};
 use std::alloc::Global;
 use std::fs::{self, OpenFile};
-use std::io::{ErrorKind, Read};
+use std::io::{ErrorKind, Read, Write};
 use std::marker::Model;
 use std::rt::Files;
 
@@ -81,11 +83,28 @@ impl<'a, R: Files> Store for FileStore<'a, R> {
     }
 
     fn save(&mut self, name: &str, bytes: &[u8]) -> Result<(), SaveFault> {
+        // All the memory that the call takes is taken here, before it touches a file.
         let note = room_to_note(self.alloc, &mut self.failed_saves, name)?;
-        let outcome = fs::write(self.rt, name, bytes).map_err(|_| SaveFault::Failed);
+        let outcome = write_file(self.rt, name, bytes);
         note_failed(&mut self.failed_saves, note, outcome.is_err());
         outcome
     }
+}
+
+// Makes a file of the bytes, in place of the one that stands there.
+fn write_file<R: Files>(rt: &R, name: &str, bytes: &[u8]) -> Result<(), SaveFault>
+    ensures { IfErr result (λ fault. fault ≡ saves.Failed) }
+{
+    let mut file = fs::create(rt, name).map_err(|_| SaveFault::Failed)?;
+    write_whole(&mut file, bytes)
+}
+
+// Writes all of the bytes, or fails.
+pub(crate) fn write_whole<F: Write>(file: &mut F, bytes: &[u8]) -> Result<(), SaveFault>
+    ensures whole { OnOk result (Appends (F.contents file.old) (F.contents file.new) bytes.now) }
+    ensures failed { IfErr result (λ fault. fault ≡ saves.Failed) }
+{
+    file.write_all(bytes).map_err(|_| SaveFault::Failed)
 }
 
 // Reads a file to its end. A file that is longer than the limit is not read.
@@ -109,7 +128,8 @@ pub(crate) fn read_within<F: Read>(
     into: &mut Vec<u8>,
 ) -> Result<(), LoadFault>
     requires { into.old.items ≡ [] }
-    ensures read { OnOk result (Consumes (F.remaining file.old) (F.remaining file.new) into.new.items) }
+    ensures read { OnOk result (Consumes (F.remaining file.old) (F.remaining file.new)
+        into.new.items) }
     ensures end { OnOk result (IsAtEnd (F.remaining file.new)) }
     ensures more { IfErr result (HasMore (F.remaining file.old) limit) }
     ensures within { OnOk result (length into.new.items ≤ limit) }

@@ -1,6 +1,7 @@
 //! A sink in memory, whose calls fail by their numbers.
 
-ghost use Rattle.std.specs.Prelude.{◌≡◌, ◌<◌, ◌≤◌, ◌^◌, ◌-◌, List, [], Some, length, take, vec_len, vec_capacity, IfOk, OnErr};
+ghost use Rattle.std.specs.Prelude.{◌≡◌, ◌<◌, ◌≤◌, ◌^◌, ◌-◌, List, [], Some, length, take, vec_len};
+ghost use Rattle.std.specs.Prelude.{vec_capacity, IfOk, OnOk, OnErr};
 ghost use Rattle.std.specs.Io.KnownBytes.{Appends, Keeps};
 ghost use Rattle.erim_io.specs.Sink.{HasRisen};
 ghost use Rattle.erim_io.specs.MemSink.{MemSinkValue, put_answer, after_put};
@@ -11,7 +12,8 @@ use erim_defs::NoMemory;
 use std::alloc::Global;
 use std::marker::Model;
 
-/// Output in memory, for tests. It takes its room at once, and the calls whose numbers it was given fail.
+/// Output in memory, for tests. It takes its room at once, and the calls whose numbers it was given
+/// fail.
 #[derive(Drop)]
 pub struct MemSink {
     buffer: Vec<u8>,
@@ -72,9 +74,11 @@ impl Sink for MemSink {
     fn put(&mut self, bytes: &[u8]) -> Result<usize, Failed>
         ensures taken { IfOk result (λ n. n ≤ length bytes.now) }
         ensures some { IfOk result (λ n. 0 < length bytes.now → 0 < n) }
-        ensures appended { IfOk result (λ n. Appends (Some self.old.written) (Some self.new.written) (take n bytes.now)) }
+        ensures appended { let old = Some self.old.written in
+            IfOk result (λ n. Appends old (Some self.new.written) (take n bytes.now)) }
         ensures unwritten { OnErr result (Keeps (Some self.old.written) (Some self.new.written)) }
         ensures failed { OnErr result (HasRisen self.old.faults self.new.faults) }
+        ensures stays { OnOk result (self.new.faults ≡ self.old.faults) }
         ensures counted { self.old.faults ≤ self.new.faults }
 
         // The answer is fixed, and so is the state.

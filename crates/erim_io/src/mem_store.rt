@@ -1,8 +1,11 @@
 //! A store in memory, whose calls fail by their numbers.
 
-ghost use Rattle.std.specs.Prelude.{◌≡◌, ◌≢◌, ◌<◌, ◌≤◌, List, [], Some, map, length, vec_len, vec_capacity, string_bytes, option_copied, Ok, Err, OnOk, OnErr, IfErr};
+ghost use Rattle.std.specs.Prelude.{◌≡◌, ◌≢◌, ◌<◌, ◌≤◌, List, [], Some, map, length, vec_len};
+ghost use Rattle.std.specs.Prelude.{vec_capacity, string_bytes, option_copied, Ok, Err, OnOk};
+ghost use Rattle.std.specs.Prelude.{OnErr, IfErr};
 ghost use Rattle.erim_io.specs.Store.{Holds, IsTooLong, noted_load, noted_save, LeavesHeld};
-ghost use Rattle.erim_io.specs.MemStore.{MemStoreValue, file_in, files_of, next_call, is_listed, answer_at, load_answer, save_answer, saved_files};
+ghost use Rattle.erim_io.specs.MemStore.{MemStoreValue, file_in, files_of, next_call, is_listed};
+ghost use Rattle.erim_io.specs.MemStore.{answer_at, load_answer, save_answer, saved_files};
 
 use crate::notes::{note_failed, room_to_note};
 use crate::store::{LoadFault, SaveFault, Store};
@@ -80,13 +83,16 @@ impl Store for MemStore {
 
     fn load(&mut self, name: &str, limit: u64, into: &mut Vec<u8>) -> Result<(), LoadFault>
         requires empty { into.old.items ≡ [] }
-        ensures ok { OnOk result (Holds (Some (file_in self.old.files)) name.now (Some into.new.items)) }
+        ensures ok { OnOk result
+            (Holds (Some (file_in self.old.files)) name.now (Some into.new.items)) }
         ensures within { OnOk result (length into.new.items ≤ limit) }
-        ensures too_large { IfErr result (IsTooLong (Some (file_in self.old.files)) name.now limit) }
+        ensures too_large { IfErr result
+            (IsTooLong (Some (file_in self.old.files)) name.now limit) }
         ensures refused { OnErr result (into.new.items ≡ []) }
 
         // The answer is fixed but for memory, and so is the state.
-        ensures answer { result ≢ Err LoadFault.Memory → result ≡ load_answer self.old name.now limit }
+        ensures answer { result ≢ Err LoadFault.Memory
+            → result ≡ load_answer self.old name.now limit }
         ensures state { self.new ≡ record self.old {
           calls = next_call self.old.calls;
           failed_loads = noted_load result name.now self.old.failed_loads;
@@ -106,7 +112,8 @@ impl Store for MemStore {
     }
 
     fn save(&mut self, name: &str, bytes: &[u8]) -> Result<(), SaveFault>
-        ensures held { LeavesHeld result name.now bytes.now (Some (file_in self.old.files)) (Some (file_in self.new.files)) }
+        ensures held { let old = Some (file_in self.old.files) in
+            LeavesHeld result name.now bytes.now old (Some (file_in self.new.files)) }
 
         // The answer is fixed but for memory, and so is the state.
         ensures answer { result ≢ Err SaveFault.Memory → result ≡ save_answer self.old }
@@ -138,7 +145,8 @@ fn put_file(
     bytes: &[u8],
 ) -> Result<(), SaveFault>
     ensures answer { result ≢ Err SaveFault.Memory → result ≡ Ok tt }
-    ensures files { files_of files.new.items ≡ saved_files result name.now bytes.now (files_of files.old.items) }
+    ensures files { files_of files.new.items
+        ≡ saved_files result name.now bytes.now (files_of files.old.items) }
 {
     let name = String::from_str(alloc, name)?;
     let bytes = Vec::from_slice(alloc, bytes)?;
@@ -180,7 +188,8 @@ fn copy_file(
     into: &mut Vec<u8>,
 ) -> Result<(), LoadFault>
     requires empty { into.old.items ≡ [] }
-    ensures answer { result ≢ Err LoadFault.Memory → result ≡ answer_at (file_in (files_of files.now) name.now) limit }
+    ensures answer { result ≢ Err LoadFault.Memory
+        → result ≡ answer_at (file_in (files_of files.now) name.now) limit }
     ensures ok { OnOk result (file_in (files_of files.now) name.now ≡ Some into.new.items) }
     ensures refused { OnErr result (into.new.items ≡ []) }
 {

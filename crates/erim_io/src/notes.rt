@@ -22,7 +22,8 @@ pub(crate) fn room_to_note(
 // Notes the name of a call that failed.
 pub(crate) fn note_failed(names: &mut Vec<String>, note: String, failed: bool)
     requires room { vec_len names.old < vec_capacity names.old }
-    ensures { map string_bytes names.new.items ≡ noted failed (string_bytes note) (map string_bytes names.old.items) }
+    ensures { let old = map string_bytes names.old.items in
+        map string_bytes names.new.items ≡ noted failed (string_bytes note) old }
 {
     if failed {
         let _ = names.push(note);

@@ -1,9 +1,11 @@
 //! Files by name.
 
-ghost use Rattle.std.specs.Prelude.{◌≡◌, ℕ, ◌≤◌, List, [], Option, Some, length, OnOk, OnErr, IfErr};
+ghost use Rattle.std.specs.Prelude.{◌≡◌, ℕ, ◌≤◌, List, [], Option, Some, length, OnOk, OnErr};
+ghost use Rattle.std.specs.Prelude.{IfErr};
 ghost use Rattle.erim_io.specs.declared.store.LoadFault.TheVariants as loads;
 ghost use Rattle.erim_io.specs.declared.store.SaveFault.TheVariants as saves;
-ghost use Rattle.erim_io.specs.Store.{Name, Files, Holds, IsTooLong, noted_load, noted_save, LeavesHeld};
+ghost use Rattle.erim_io.specs.Store.{Name, Files, Holds, IsTooLong, noted_load, noted_save};
+ghost use Rattle.erim_io.specs.Store.{LeavesHeld};
 
 use std::alloc::{AllocError, AllocFailed};
 
@@ -51,7 +53,8 @@ impl<T: Drop> From<AllocFailed<T>> for SaveFault {
     }
 }
 
-/// Files by name. A load or a save that fails is noted; `held` is what the store tells of its files.
+/// Files by name. A load or a save that fails is noted.
+/// `held` is what the store tells of its files.
 pub trait Store {
     // What is held under each name, where the store tells it.
     ghost held: { Self → Option Files };
@@ -81,5 +84,6 @@ pub trait Store {
 
         // The name of a failed save, and no other, is noted.
         ensures loads { failed_loads self.new ≡ failed_loads self.old }
-        ensures saves { failed_saves self.new ≡ noted_save result name.now (failed_saves self.old) };
+        ensures saves { failed_saves self.new
+            ≡ noted_save result name.now (failed_saves self.old) };
 }

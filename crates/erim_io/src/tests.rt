@@ -1,9 +1,10 @@
-use crate::file_store::read_within;
+use crate::file_store::{read_within, write_whole};
+use crate::out_sink::put_to;
 use crate::{
     Failed, FileStore, LoadFault, MemSink, MemStore, OutSink, SaveFault, Sink, Store, put_all,
 };
 use std::alloc::Global;
-use std::io::{self, ErrorKind, Read};
+use std::io::{self, ErrorKind, Read, Write};
 use std::process::Abort;
 use std::test::Fail;
 use std::{env, fs};
@@ -170,4 +171,113 @@ fn a_read_that_fails_is_told(rt: HostRuntime) {
         let answer = read_within(&mut Faulty { calls: 0 }, limit, &mut into);
         assert_eq!(rt; answer, Err(want), "at {limit}");
     }
+}
+
+// One byte at a time, so many of them.
+#[derive(Drop)]
+struct Dripping {
+    left: u8,
+}
+
+impl Read for Dripping {
+    fn read(&mut self, buf: &mut [u8]) -> io::Result<usize> {
+        match buf {
+            [first, ..] if self.left > 0 => {
+                *first = self.left;
+                self.left -= 1;
+                Ok(1)
+            }
+            _ => Ok(0),
+        }
+    }
+}
+
+#[test]
+fn bytes_that_drip_are_read_to_the_end(rt: HostRuntime) {
+    let mut into = Vec::new(rt.alloc());
+    assert_eq!(rt;
+        read_within(&mut Dripping { left: 3 }, 3, &mut into),
+        Ok(())
+    );
+    assert_eq!(rt; into.as_slice(), [3, 2, 1].as_slice());
+    let mut into = Vec::new(rt.alloc());
+    assert_eq!(rt;
+        read_within(&mut Dripping { left: 4 }, 3, &mut into),
+        Err(LoadFault::TooLarge { length: 4 })
+    );
+}
+
+// Takes so many bytes, two at a time, and then none.
+#[derive(Drop)]
+struct Narrow {
+    room: usize,
+}
+
+impl Write for Narrow {
+    fn write(&mut self, buf: &[u8]) -> io::Result<usize> {
+        let count = buf.len().min(2).min(self.room);
+        self.room -= count;
+        Ok(count)
+    }
+
+    fn flush(&mut self) -> io::Result<()> {
+        Ok(())
+    }
+}
+
+#[test]
+fn a_full_writer_fails_and_is_counted(rt: HostRuntime) {
+    assert_eq!(rt; write_whole(&mut Narrow { room: 5 }, b"abcde"), Ok(()));
+    assert_eq!(rt;
+        write_whole(&mut Narrow { room: 4 }, b"abcde"),
+        Err(SaveFault::Failed)
+    );
+    let mut out = Narrow { room: 3 };
+    let mut faults = 0;
+    let table = [
+        (b"abc".as_slice(), Ok(2), 0),
+        (b"abc".as_slice(), Ok(1), 0),
+        (b"".as_slice(), Ok(0), 0),
+        (b"abc".as_slice(), Err(Failed), 1),
+        (b"".as_slice(), Ok(0), 1),
+        (b"a".as_slice(), Err(Failed), 2),
+    ];
+    for (bytes, want, count) in table {
+        assert_eq!(rt; put_to(&mut out, &mut faults, bytes), want);
+        assert_eq!(rt; faults, count);
+    }
+}
+
+#[test]
+fn file_store_takes_files_above_64_kib(rt: HostRuntime) -> Result<(), Fail> {
+    let mut path = env::temp_dir(&rt)?;
+    path.push("erim_io_file_store_above_64_kib")?;
+    let name = path.as_path().to_str().ok_or("no text")?;
+    let mut bytes = Vec::new(rt.alloc());
+    for i in 0..70_001u32 {
+        bytes.push((i % 251) as u8)?;
+    }
+    let mut store = FileStore::new(rt.alloc(), &rt);
+    assert_eq!(rt; store.save(name, bytes.as_slice()), Ok(()));
+    let held = load(rt.alloc(), &mut store, name, 70_001);
+    let refused = load(rt.alloc(), &mut store, name, 70_000);
+    fs::remove_file(&rt, name)?;
+    assert!(rt; held?.as_slice() == bytes.as_slice());
+    assert!(rt; matches!(refused, Err(LoadFault::TooLarge { length: 70_001 })));
+    Ok(())
+}
+
+// Linux's device of which every write fails for want of room (full(4)).
+const FULL: &str = "/dev/full";
+
+#[test]
+fn a_full_device_fails(rt: HostRuntime) -> Result<(), Fail> {
+    let mut store = FileStore::new(rt.alloc(), &rt);
+    assert_eq!(rt; store.save(FULL, b"abc"), Err(SaveFault::Failed));
+    check_names(&rt, store.failed_saves(), &[FULL]);
+    let mut out = fs::OpenOptions::new().write(true).open(&rt, FULL)?;
+    let mut faults = 0;
+    assert_eq!(rt; put_to(&mut out, &mut faults, b"abc"), Err(Failed));
+    assert_eq!(rt; faults, 1);
+    Ok(())
 }

@@ -7,7 +7,6 @@ pub mod CallLemmas
 pub mod RunLemmas
 pub mod LoadLemmas
 pub mod SegmentLemmas
-pub mod PartLemmas
 pub mod PublishLemmas
 pub mod LiveLemmas
 pub mod RefusedLemmas

@@ -1,5 +1,7 @@
 -- The thread that makes a step stays live.
-use Rattle.std.proofs.Common.{◌≡◌, ℕ, zero, suc, ◌-◌, ◌+◌, ◌/◌, ◌^◌, ◌&&◌, ◌++◌, Bool, true, false, cond, eqb, ltb, List, [], ◌∷◌, Option, Some, None, refl, sym, ap, subst, ◌∙◌, inl, inr}
+use Rattle.std.proofs.Common.{◌≡◌, ℕ, zero, suc, ◌-◌, ◌+◌, ◌/◌, ◌^◌, ◌&&◌, ◌++◌, Bool, true, false}
+use Rattle.std.proofs.Common.{cond, eqb, ltb, List, [], ◌∷◌, Option, Some, None, refl, sym, ap}
+use Rattle.std.proofs.Common.{subst, ◌∙◌, inl, inr}
 use Rattle.std.specs.Prelude.{is_none, slice_get, slice_set}
 use Rattle.std.specs.Int.{w32}
 use Rattle.std.proofs.lemmas.Bool.{cases_Bool}
@@ -16,39 +18,62 @@ use Rattle.erim_defs.specs.declared.insn.Place.TheVariants.{Reg}
 use Rattle.erim_defs.specs.declared.insn.Src.{Src}
 use Rattle.erim_defs.specs.declared.insn.Src.TheVariants.{Imm}
 use Rattle.erim_defs.specs.declared.insn.Width.TheVariants.{W4}
-use Rattle.erim_defs.specs.declared.insn.Fetched.{Fetched}
-use Rattle.erim_defs.specs.declared.insn.Fetched.TheVariants.{Runs, Need, Wrong}
-use Rattle.erim_defs.specs.Pages.{ByteMap, code_with, word}
-use Rattle.erim_defs.specs.Access.{Seen, whole, stop}
-use Rattle.erim_defs.specs.Image.{image_entries}
-use Rattle.erim_defs.specs.Unsafe.{first_unsafe}
-use Rattle.erim_defs.specs.Alu.{Outcome, alu, condition}
-use Rattle.erim_defs.specs.Meaning.{Plan, Ask, Give, Refuse, Call, Did, Done, Stopped, Called, does, unless, plan, plan_alu, plan_jcc, plan_wrpkru, concluded, low_half, on_source, onward, reg, source, with_reg, write_made, writes_result}
-use Rattle.erim_defs.specs.State.{Setup, State, any_live, code, settled}
-use Rattle.erim_defs.specs.Calls.{Reply, Refusal, Answer, Quit, reply}
-use Rattle.erim_defs.specs.Step.{asks_exec, answered, changed, did, entered, exec_fault_on, fetched, is_free, judged, live_thread, made_by, moved, replied, runner, step, stepped_by, went, with_made}
+use Rattle.erim_defs.specs.declared.insn.FetchOutcome.{FetchOutcome}
+use Rattle.erim_defs.specs.declared.insn.FetchOutcome.TheVariants.{Runs, Need, Wrong}
+use Rattle.erim_defs.specs.Machine.Pages.{ByteMap, code_with, word, asks_exec}
+use Rattle.erim_defs.specs.Machine.Access.{Seen, whole, stop}
+use Rattle.erim_defs.specs.Inspection.Image.{image_trust}
+use Rattle.erim_defs.specs.Inspection.Unsafe.{first_unsafe}
+use Rattle.erim_defs.specs.Machine.Alu.{Outcome, alu, condition}
+use Rattle.erim_defs.specs.Machine.Meaning.{Plan, Ask, Give, Refuse, Call, Effect, Done, Stopped}
+use Rattle.erim_defs.specs.Machine.Meaning.{Called, effect, unless, plan, plan_alu, plan_jcc}
+use Rattle.erim_defs.specs.Machine.Meaning.{plan_wrpkru, with_outcome, low_half, on_source, onward}
+use Rattle.erim_defs.specs.Machine.Meaning.{register, source, with_register, bytes_after_write}
+use Rattle.erim_defs.specs.Machine.Meaning.{writes_result}
+use Rattle.erim_defs.specs.Machine.State.{Setup, State, any_live, code, with_origin, trust_of}
+use Rattle.erim_defs.specs.Machine.Calls.{Refusal, Answer, Quit, CallResult, call_result}
+use Rattle.erim_defs.specs.Machine.Step.{is_free, step, after_move, after_instruction, after_call}
+use Rattle.erim_defs.specs.Machine.Step.{after_fetch, sequence_of, with_new_thread, caller_after}
+use Rattle.erim_defs.specs.Machine.Step.{with_change, behind_syscall, after_verdict}
+use Rattle.erim_defs.specs.Machine.Step.{after_exec_fault, ready_thread, after_step_of, if_live}
+use Rattle.erim_defs.specs.Machine.Step.{fetch, Runner}
 
 -- ---- threads in a list
 
 -- a thread that is live
-any_live_at : (ts : List Thread) (t : ℕ) (old : Thread) → slice_get ts t ≡ Some old → old.live ≡ true → any_live ts ≡ true
+any_live_at : (ts : List Thread) (t : ℕ) (old : Thread) → slice_get ts t ≡ Some old
+    → old.live ≡ true → any_live ts ≡ true
 unfolding any_live
 any_live_at [] t old e live = absurd cc
 any_live_at (u ∷ us) zero old e live = let same : u ≡ old = cc in rw (same, live) refl
-any_live_at (u ∷ us) (suc t) old e live = elim (cases_Bool u.live) [ inl on ↦ rw on refl | inr off ↦ rw off (any_live_at us t old e live) ]
+any_live_at (u ∷ us) (suc t) old e live = elim (cases_Bool u.live) [
+  | inl on ↦ rw on refl
+  | inr off ↦
+      rw off (any_live_at us t old e live)
+]
 
 -- a live thread in the place of another
-any_live_set : (ts : List Thread) (t : ℕ) (old new : Thread) → slice_get ts t ≡ Some old → new.live ≡ true → any_live (slice_set ts t new) ≡ true
+any_live_set : (ts : List Thread) (t : ℕ) (old new : Thread) → slice_get ts t ≡ Some old
+    → new.live ≡ true → any_live (slice_set ts t new) ≡ true
 unfolding any_live
 any_live_set [] t old new e live = absurd cc
 any_live_set (u ∷ us) zero old new e live = rw live refl
-any_live_set (u ∷ us) (suc t) old new e live = elim (cases_Bool u.live) [ inl on ↦ rw on refl | inr off ↦ rw off (any_live_set us t old new e live) ]
+any_live_set (u ∷ us) (suc t) old new e live =
+    elim (cases_Bool u.live) [
+      | inl on ↦ rw on refl
+      | inr off ↦
+          rw off (any_live_set us t old new e live)
+    ]
 
 -- threads behind them
 any_live_more : (ts us : List Thread) → any_live ts ≡ true → any_live (ts ++ us) ≡ true
 unfolding any_live
 any_live_more [] us h = absurd cc
-any_live_more (t ∷ ts) us h = elim (cases_Bool t.live) [ inl on ↦ rw on refl | inr off ↦ rw off (any_live_more ts us (rw off at h)) ]
+any_live_more (t ∷ ts) us h = elim (cases_Bool t.live) [
+  | inl on ↦ rw on refl
+  | inr off ↦
+      rw off (any_live_more ts us (rw off at h))
+]
 
 -- ---- what instructions give
 
@@ -60,23 +85,35 @@ GivesLive live Refuse = Unit {0}
 GivesLive live Call = Unit {0}
 
 -- by a source
-source_live : (live : Bool) (o : Option ℕ) (f : ℕ → Thread) → ((x : ℕ) → (f x).live ≡ live) → GivesLive live (on_source o (λ x. Give (f x) None))
+source_live : (live : Bool) (o : Option ℕ) (f : ℕ → Thread) → ((x : ℕ) → (f x).live ≡ live)
+    → GivesLive live (on_source o (λ x. Give (f x) None))
 source_live live None f h = tt
 source_live live (Some x) f h = h x
 
 -- by a result and flags
-concluded_live : (t : Thread) (op : AluOp) (n : ℕ) (o : Outcome) → (concluded t op n o).live ≡ t.live
-concluded_live t op n o = elim (cases_Bool (writes_result op)) [ inl on ↦ rw on refl | inr off ↦ rw off refl ]
+concluded_live : (t : Thread) (op : AluOp) (n : ℕ) (o : Outcome)
+    → (with_outcome t op n o).live ≡ t.live
+concluded_live t op n o = elim (cases_Bool (writes_result op)) [
+  | inl on ↦ rw on refl
+  | inr off ↦
+      rw off refl
+]
 
 -- arithmetic of registers
-alu_live : (op : AluOp) (n : ℕ) (src : Src) (len : ℕ) (t : Thread) → GivesLive t.live (plan_alu op n src len t)
+alu_live : (op : AluOp) (n : ℕ) (src : Src) (len : ℕ) (t : Thread)
+    → GivesLive t.live (plan_alu op n src len t)
 unfolding plan_alu
-alu_live op n src len t = source_live t.live (source t src) (λ x. concluded (onward len t) op n (alu op w32 (low_half (reg t n)) x t.flags)) (λ x. concluded_live (onward len t) op n (alu op w32 (low_half (reg t n)) x t.flags))
+alu_live op n src len t =
+    source_live t.live (source t src)
+    (λ x. with_outcome (onward len t) op n (alu op w32 (low_half (register t n)) x t.flags))
+    (λ x. concluded_live (onward len t) op n (alu op w32 (low_half (register t n)) x t.flags))
 
 -- WRPKRU
 wrpkru_live : (len : ℕ) (t : Thread) → GivesLive t.live (plan_wrpkru len t)
 unfolding plan_wrpkru
-wrpkru_live len t = elim (cases_Bool (eqb (low_half (reg t 1)) 0 && eqb (low_half (reg t 2)) 0)) [ inl on ↦ rw on refl | inr off ↦ rw off tt ]
+wrpkru_live len t = elim (cases_Bool (eqb (low_half (register t 1)) 0
+    && eqb (low_half (register t 2)) 0))
+    [ inl on ↦ rw on refl | inr off ↦ rw off tt ]
 
 -- no instruction so far ends its thread
 plan_live : (insn : Insn) (len : ℕ) (t : Thread) → GivesLive t.live (plan insn len t)
@@ -84,106 +121,156 @@ unfolding plan plan_jcc
 plan_live (Alu Xor W4 (Reg n) src lock) len t = alu_live Xor n src len t
 plan_live (Alu Cmp W4 (Reg n) src lock) len t = alu_live Cmp n src len t
 plan_live (Mov W4 (Reg n) (Imm i)) len t = refl
-plan_live (Jcc c rel) len t = elim (cases_Bool (condition c t.flags)) [ inl on ↦ rw on refl | inr off ↦ rw off refl ]
+plan_live (Jcc c rel) len t =
+    elim (cases_Bool (condition c t.flags)) [ inl on ↦ rw on refl | inr off ↦ rw off refl ]
 plan_live Syscall len t = tt
 plan_live Wrpkru len t = wrpkru_live len t
 plan_live other len t = tt
 
 -- the thread with which an instruction is done is as live
-abbrev IsDoneLive : Bool → Did → Type 0
+abbrev IsDoneLive : Bool → Effect → Type 0
 IsDoneLive live (Done t w) = t.live ≡ live
 IsDoneLive live (Stopped a) = Unit {0}
 IsDoneLive live Called = Unit {0}
 
 -- unless an access stops
-unless_live : (live : Bool) (o : Option Access) (d : Did) → IsDoneLive live d → IsDoneLive live (unless o d)
+unless_live : (live : Bool) (o : Option Access) (d : Effect) → IsDoneLive live d
+    → IsDoneLive live (unless o d)
 unless_live live None d h = h
 unless_live live (Some a) d h = tt
 
 -- what comes of a plan
-does_live : (live : Bool) (p : Plan) (seen : Seen) (bytes : ByteMap) (pkru rip : ℕ) → GivesLive live p → IsDoneLive live (does p seen bytes pkru rip)
-unfolding does
+does_live : (live : Bool) (p : Plan) (seen : Seen) (bytes : ByteMap) (pkru rip : ℕ)
+    → GivesLive live p → IsDoneLive live (effect p seen bytes pkru rip)
+unfolding effect
 does_live live (Ask a n k) seen bytes pkru rip h =
-    unless_live live (stop seen false pkru a n) (does (k (word bytes a n)) seen bytes pkru rip) (does_live live (k (word bytes a n)) seen bytes pkru rip (h (word bytes a n)))
+    unless_live live (stop seen false pkru a n) (effect (k (word bytes a n)) seen bytes pkru rip)
+    (does_live live (k (word bytes a n)) seen bytes pkru rip (h (word bytes a n)))
 does_live live (Give t None) seen bytes pkru rip h = h
-does_live live (Give t (Some w)) seen bytes pkru rip h = unless_live live (stop seen true pkru w.addr w.count) (Done t (Some w)) h
+does_live live (Give t (Some w)) seen bytes pkru rip h =
+    unless_live live (stop seen true pkru w.addr w.count) (Done t (Some w)) h
 does_live live Refuse seen bytes pkru rip h = tt
 does_live live Call seen bytes pkru rip h = tt
 
 -- ---- what a step makes of the threads
 
 -- a thread that goes on live
-went_live : (t : ℕ) (old new : Thread) (made : Option Found) (free : Bool) (s : State) → slice_get s.threads t ≡ Some old → new.live ≡ true → any_live (went t old new made free s).threads ≡ true
-went_live t old new made free s here live = any_live_set s.threads t old (settled s.setup made new) here live
+went_live : (t : ℕ) (old new : Thread) (made : Option Found) (free : Bool) (s : State)
+    → slice_get s.threads t ≡ Some old → new.live ≡ true
+    → any_live (after_move (record {
+      runner = record { number = t; thread = old };
+      after = new;
+      executed = made;
+      free = free;
+    }) s).threads ≡ true
+went_live t old new made free s here live =
+    any_live_set s.threads t old (with_origin (trust_of s) made new) here live
 
 -- a new thread
-made_live : (setup : Setup) (o : Option Thread) (s : State) → any_live s.threads ≡ true → any_live (with_made setup o s).threads ≡ true
-made_live setup None s h = h
-made_live setup (Some u) s h = any_live_more s.threads (settled setup None u ∷ []) h
+made_live : (o : Option Thread) (s : State) → any_live s.threads ≡ true
+    → any_live (with_new_thread o s).threads ≡ true
+made_live None s h = h
+made_live (Some u) s h = any_live_more s.threads (with_origin (trust_of s) None u ∷ []) h
 
 -- a reply, the end of the process too
-replied_live : (r : Reply) (t : ℕ) (old new : Thread) (s : State) → slice_get s.threads t ≡ Some old → new.live ≡ true → any_live (replied r t old new s).threads ≡ true
-replied_live (Refusal e) t old new s here live = went_live t old (with_reg new 0 (2 ^ 64 - e)) None false s here live
+replied_live : (r : CallResult) (t : ℕ) (old new : Thread) (s : State)
+    → slice_get s.threads t ≡ Some old → new.live ≡ true
+    → any_live (after_call r (record { number = t; thread = old }) new s).threads ≡ true
+replied_live (Refusal e) t old new s here live =
+    went_live t old (with_register new 0 (2 ^ 64 - e)) None false s here live
 replied_live (Answer v c) t old new s here live =
-    made_live s.setup c.made (went t old (answered new v c) None false (changed c s)) (went_live t old (answered new v c) None false (changed c s) here live)
+    made_live c.made (after_move
+    (record {
+      runner = record { number = t; thread = old };
+      after = (caller_after v c new);
+      executed = None;
+      free = false;
+    }) (with_change c s)) (went_live t old (caller_after v c new) None false (with_change c s) here live)
 replied_live (Quit code) t old new s here live = went_live t old new None false s here live
 
 -- a page that is judged
-judged_live : (o : Option Found) (t q : ℕ) (r : Rights) (s : State) → any_live s.threads ≡ true → any_live (judged o t q r s).threads ≡ true
-judged_live None t q r s h = h
-judged_live (Some first) t q r s h = h
+judged_live : (o : Option Found) (q : ℕ) (r : Rights) (t : Runner) (s : State)
+    → any_live s.threads ≡ true → any_live (after_verdict o q r t s).threads ≡ true
+judged_live None q r t s h = h
+judged_live (Some first) q r t s h = h
 
 -- an exec fault
-fault_live : (o : Option Rights) (t rip x : ℕ) (s : State) → any_live s.threads ≡ true → any_live (exec_fault_on o t rip x s).threads ≡ true
-fault_live None t rip x s h = h
-fault_live (Some r) t rip x s h = elim (cases_Bool (asks_exec r.asked && ltb (x / 4096) (2 ^ 35))) [
-  | inl on ↦ rw on (judged_live (first_unsafe (image_entries s.setup.image) (code_with s.rights s.bytes (x / 4096))) t (x / 4096) r s h)
+fault_live : (o : Option Rights) (x : ℕ) (t : Runner) (s : State) → any_live s.threads ≡ true
+    → any_live (after_exec_fault o x t s).threads ≡ true
+fault_live None x t s h = h
+fault_live (Some r) x t s h = elim (cases_Bool (asks_exec r.asked && ltb (x / 4096) (2 ^ 35))) [
+  | inl on ↦ rw on (judged_live
+      (first_unsafe (image_trust s.setup.image) (code_with s.rights s.bytes (x / 4096))) (x / 4096)
+      r t s h)
   | inr off ↦ rw off h
 ]
 
 -- an instruction
-did_live : (d : Did) (insn : Insn) (len skip t : ℕ) (old : Thread) (s : State) → IsDoneLive true d → slice_get s.threads t ≡ Some old → old.live ≡ true → any_live (did d insn len skip t old s).threads ≡ true
-did_live (Done new w) insn len skip t old s h here live = went_live t old new (made_by insn old.rip len skip) (is_free insn) (record s { bytes = write_made w s.bytes }) here h
-did_live (Stopped (Fault cause a)) insn len skip t old s h here live = any_live_at s.threads t old here live
-did_live (Stopped (Missing q)) insn len skip t old s h here live = any_live_at s.threads t old here live
-did_live Called insn len skip t old s h here live = replied_live (reply s (entered len old)) t old (entered len old) s here live
+did_live : (d : Effect) (insn : Insn) (len skip t : ℕ) (old : Thread) (s : State)
+    → IsDoneLive true d → slice_get s.threads t ≡ Some old → old.live ≡ true
+    → any_live (after_instruction d (record { insn = insn; len = len; skip = skip })
+    (record { number = t; thread = old }) s).threads ≡ true
+did_live (Done new w) insn len skip t old s h here live =
+    went_live t old new (sequence_of (record { insn = insn; len = len; skip = skip }) old.rip)
+    (is_free insn old) (record s { bytes = bytes_after_write w s.bytes }) here h
+did_live (Stopped (Fault cause a)) insn len skip t old s h here live =
+    any_live_at s.threads t old here live
+did_live (Stopped (Missing q)) insn len skip t old s h here live =
+    any_live_at s.threads t old here live
+did_live Called insn len skip t old s h here live =
+    replied_live (call_result s t (behind_syscall len old)) t old (behind_syscall len old) s here
+    live
 
 -- a step without its guard
-moved_live : (x : Fetched) (t : ℕ) (old : Thread) (s : State) → slice_get s.threads t ≡ Some old → old.live ≡ true → any_live (moved x t old s).threads ≡ true
+moved_live : (x : FetchOutcome) (t : ℕ) (old : Thread) (s : State)
+    → slice_get s.threads t ≡ Some old → old.live ≡ true
+    → any_live (after_fetch x (record { number = t; thread = old }) s).threads ≡ true
 moved_live (Runs insn len skip) t old s here live =
-    let gives : GivesLive true (plan insn len old) = subst (λ (b : Bool). GivesLive b (plan insn len old)) live (plan_live insn len old) in
-    did_live (does (plan insn len old) (whole s.rights) s.bytes old.pkru old.rip) insn len skip t old s (does_live true (plan insn len old) (whole s.rights) s.bytes old.pkru old.rip gives) here live
-moved_live (Need x) t old s here live = fault_live (s.rights (x / 4096)) t old.rip x s (any_live_at s.threads t old here live)
+    let gives : GivesLive true (plan insn len old) =
+    subst (λ (b : Bool). GivesLive b (plan insn len old)) live (plan_live insn len old) in
+    did_live (effect (plan insn len old) (whole s.rights) s.bytes old.pkru old.rip) insn len skip t
+    old s (does_live true (plan insn len old) (whole s.rights) s.bytes old.pkru old.rip gives)
+    here live
+moved_live (Need x) t old s here live =
+    fault_live (s.rights (x / 4096)) x (record { number = t; thread = old }) s
+    (any_live_at s.threads t old here live)
 moved_live Wrong t old s here live = any_live_at s.threads t old here live
 
 -- ---- the thread that makes a step
 
-live_if : (live : Bool) (u old : Thread) → cond live (Some u) None ≡ Some old → (u ≡ old) × (live ≡ true)
+live_if : (live : Bool) (u old : Thread) → cond live (Some u) None ≡ Some old
+    → (u ≡ old) × (live ≡ true)
 live_if true u old e = let same : u ≡ old = cc in (same, refl)
 live_if false u old e = absurd cc
 
 -- it is live
-live_thread_is : (o : Option Thread) (old : Thread) → live_thread o ≡ Some old → (o ≡ Some old) × (old.live ≡ true)
+live_thread_is : (o : Option Thread) (old : Thread) → if_live o ≡ Some old
+    → (o ≡ Some old) × (old.live ≡ true)
 live_thread_is None old e = absurd cc
-live_thread_is (Some u) old e = let w = live_if u.live u old e in (ap Some w.0, sym (ap (λ (x : Thread). x.live) w.0) ∙ w.1)
+live_thread_is (Some u) old e = let w = live_if u.live u old e in
+    (ap Some w.0, sym (ap (λ (x : Thread). x.live) w.0) ∙ w.1)
 
 -- it stands in its place
-runner_is : (s : State) (t : ℕ) (old : Thread) → runner s t ≡ Some old → (slice_get s.threads t ≡ Some old) × (old.live ≡ true)
+runner_is : (s : State) (t : ℕ) (old : Thread) → ready_thread s t ≡ Some old
+    → (slice_get s.threads t ≡ Some old) × (old.live ≡ true)
 runner_is s t old e = elim (cases_Bool (is_none s.end && ltb s.steps s.setup.budget)) [
   | inl on ↦ live_thread_is (slice_get s.threads t) old (rw on at e)
   | inr off ↦ absurd (let none : None ≡ Some old = rw off at e in cc)
 ]
 
 -- a step, by the thread that runs
-by_live : (o : Option Thread) (t : ℕ) (s new : State) → runner s t ≡ o → stepped_by o t s ≡ Some new → any_live new.threads ≡ true
+by_live : (o : Option Thread) (t : ℕ) (s new : State) → ready_thread s t ≡ o
+    → after_step_of o t s ≡ Some new → any_live new.threads ≡ true
 by_live None t s new runs e = absurd cc
 by_live (Some old) t s new runs e =
     let later : State = record s { steps = s.steps + 1 } in
     let here = runner_is s t old runs in
-    let same : moved (fetched (code s) old.rip) t old later ≡ new = cc in
-    subst (λ (x : State). any_live x.threads ≡ true) same (moved_live (fetched (code s) old.rip) t old later here.0 here.1)
+    let same : after_fetch (fetch (code s) old.rip) (record { number = t; thread = old }) later
+    ≡ new = cc in
+    subst (λ (x : State). any_live x.threads
+    ≡ true) same (moved_live (fetch (code s) old.rip) t old later here.0 here.1)
 
 -- after a step some thread is live
 pub step_live : (t : ℕ) (s new : State) → step t s ≡ Some new → any_live new.threads ≡ true
 unfolding step
-step_live t s new e = by_live (runner s t) t s new refl e
+step_live t s new e = by_live (ready_thread s t) t s new refl e

@@ -1,6 +1,9 @@
--- A tame image publishes every page that asks for it, at the start and ever after: no instruction so far writes to
--- memory, and no call changes rights, so each such page holds the bytes of the image code.
-use Rattle.std.proofs.Common.{◌≡◌, ℕ, zero, suc, ◌+◌, ◌*◌, ◌/◌, ◌^◌, ◌⊎◌, ◌&&◌, ◌%◌, ◌++◌, not, Bool, true, false, cond, eqb, ltb, List, [], ◌∷◌, length, is_some, Option, Some, None, refl, sym, ap, subst, ◌∙◌, inl, inr, eqb-true}
+-- A tame image publishes every page that asks for it, at the start and ever after: no instruction
+-- so far writes to memory, and no call changes rights, so each such page holds the bytes of the
+-- image code.
+use Rattle.std.proofs.Common.{◌≡◌, ℕ, zero, suc, ◌+◌, ◌*◌, ◌/◌, ◌^◌, ◌⊎◌, ◌&&◌, ◌%◌, ◌++◌, not}
+use Rattle.std.proofs.Common.{Bool, true, false, cond, eqb, ltb, List, [], ◌∷◌, length, is_some}
+use Rattle.std.proofs.Common.{Option, Some, None, refl, sym, ap, subst, ◌∙◌, inl, inr, eqb-true}
 use Rattle.std.specs.Int.{w32}
 use Rattle.std.proofs.lemmas.Bool.{cases_Bool, and_parts, both_ways}
 use Rattle.erim_defs.specs.declared.machine.Rights.{Rights}
@@ -17,27 +20,44 @@ use Rattle.erim_defs.specs.declared.insn.Place.TheVariants.{Reg}
 use Rattle.erim_defs.specs.declared.insn.Src.{Src}
 use Rattle.erim_defs.specs.declared.insn.Src.TheVariants.{Imm}
 use Rattle.erim_defs.specs.declared.insn.Width.TheVariants.{W4}
-use Rattle.erim_defs.specs.declared.insn.Fetched.{Fetched}
-use Rattle.erim_defs.specs.declared.insn.Fetched.TheVariants.{Runs, Need, Wrong}
-use Rattle.erim_defs.specs.Pages.{RightsMap, ByteMap, code_with, is_published, put, taken}
-use Rattle.erim_defs.specs.Access.{Seen, whole, stop}
-use Rattle.erim_defs.specs.Image.{IsAccepted, code_of, image_code, image_entries, is_executable, segments, touches}
-use Rattle.erim_defs.specs.Unsafe.{first_unsafe}
-use Rattle.erim_defs.specs.Alu.{alu}
-use Rattle.erim_defs.specs.Meaning.{Plan, Ask, Give, Refuse, Call, Did, Done, Stopped, Called, does, plan, plan_alu, plan_jcc, plan_wrpkru, concluded, low_half, on_source, onward, reg, source}
-use Rattle.erim_defs.specs.State.{Setup, State, code, in_text}
-use Rattle.erim_defs.specs.Calls.{Change, Reply, Refusal, Answer, Quit, nothing, or_refuse, reply, write_of}
-use Rattle.erim_defs.specs.Step.{asks_exec, changed, answered, did, entered, exec_fault_on, fetched, judged, moved, published, replied, runner, step, stepped_by, went, with_made}
-use Rattle.erim_defs.specs.Start.{asked_in, asked_of, byte_in, first_rights, fresh, image_asked, image_byte, is_keyed, is_stack, loaded, rights_at_start}
-use Rattle.erim_defs.specs.Replay.{replay, replay_from, steps_of, then_}
-use Rattle.erim_process.specs.Stepping.{IsTame, Publishes}
-use Rattle.erim_process.proofs.PartLemmas.{Loses, asks_exec_is, first_unsafe_loses, text_page_asks}
+use Rattle.erim_defs.specs.declared.insn.FetchOutcome.{FetchOutcome}
+use Rattle.erim_defs.specs.declared.insn.FetchOutcome.TheVariants.{Runs, Need, Wrong}
+use Rattle.erim_defs.specs.Machine.Pages.{RightsMap, ByteMap, code_with, is_published}
+use Rattle.erim_defs.specs.Machine.Pages.{with_value_at, bytes_of_range, asks_exec}
+use Rattle.erim_defs.specs.Machine.Pages.{published_rights}
+use Rattle.erim_defs.specs.Machine.Access.{Seen, whole, stop}
+use Rattle.erim_defs.specs.Inspection.Image.{IsAccepted, code_of, image_code, is_executable}
+use Rattle.erim_defs.specs.Inspection.Image.{segments, touches, image_trust}
+use Rattle.erim_defs.specs.Inspection.Unsafe.{first_unsafe}
+use Rattle.erim_defs.specs.Machine.Alu.{alu}
+use Rattle.erim_defs.specs.Machine.Meaning.{Plan, Ask, Give, Refuse, Call, Effect, Done, Stopped}
+use Rattle.erim_defs.specs.Machine.Meaning.{Called, effect, plan, plan_alu, plan_jcc, plan_wrpkru}
+use Rattle.erim_defs.specs.Machine.Meaning.{with_outcome, low_half, on_source, onward, register}
+use Rattle.erim_defs.specs.Machine.Meaning.{source}
+use Rattle.erim_defs.specs.Machine.State.{Setup, State, code}
+use Rattle.erim_defs.specs.Machine.Calls.{Change, Refusal, Answer, Quit, or_refuse, CallResult}
+use Rattle.erim_defs.specs.Machine.Calls.{no_change, write_result, call_result}
+use Rattle.erim_defs.specs.Machine.Step.{step, after_move, after_instruction, after_call}
+use Rattle.erim_defs.specs.Machine.Step.{after_fetch, with_new_thread, caller_after, with_change}
+use Rattle.erim_defs.specs.Machine.Step.{behind_syscall, after_verdict, after_exec_fault}
+use Rattle.erim_defs.specs.Machine.Step.{ready_thread, after_step_of, fetch, Runner}
+use Rattle.erim_defs.specs.Machine.Start.{asked_in, asked_of, byte_in, first_rights}
+use Rattle.erim_defs.specs.Machine.Start.{unpublished_rights, image_asked, image_byte, is_keyed}
+use Rattle.erim_defs.specs.Machine.Start.{is_stack, first_state, rights_at_start}
+use Rattle.erim_defs.specs.Machine.Replay.{replay, replay_from, steps_of, then_}
+use Rattle.erim_process.specs.StepFacts.{IsTame, Publishes}
+use Rattle.erim_defs.proofs.AcceptedLemmas.{text_page_asks}
+use Rattle.erim_defs.proofs.LossLemmas.{Loses, first_unsafe_loses}
+use Rattle.erim_defs.proofs.SegmentLemmas.{asks_exec_is}
+use Rattle.erim_defs.specs.Inspection.Trust.{in_text_of}
 
--- the image code holds nothing unsafe, what is published asks for it, and what asks has the bytes of the image code
+-- the image code holds nothing unsafe, what is published asks for it, and what asks has the bytes
+-- of the image code
 record IsBacked (image : List ℕ) (rights : RightsMap) (bytes : ByteMap) : Type 0 where
-  safe : first_unsafe (image_entries image) (image_code image) ≡ None
+  safe : first_unsafe (image_trust image) (image_code image) ≡ None
   asked : (q : ℕ) (r : Rights) → rights q ≡ Some r → r.exec ≡ true → asks_exec r.asked ≡ true
-  held : (q : ℕ) (r : Rights) → rights q ≡ Some r → asks_exec r.asked ≡ true → (a : ℕ) → a / 4096 ≡ q → image_code image a ≡ Some (bytes a)
+  held : (q : ℕ) (r : Rights) → rights q ≡ Some r → asks_exec r.asked ≡ true → (a : ℕ)
+      → a / 4096 ≡ q → image_code image a ≡ Some (bytes a)
 
 -- the same of a state
 abbrev Fine : State → Type 0
@@ -46,8 +66,10 @@ Fine s = IsBacked s.setup.image s.rights s.bytes
 -- ---- what is fine publishes
 
 -- a published byte is that of the image code
-published_loses : (image : List ℕ) (rights : RightsMap) (bytes : ByteMap) (a : ℕ) → IsBacked image rights bytes → (o : Option Rights) → rights (a / 4096) ≡ o
-    → (let found : Option ℕ = cond (is_published o) (Some (bytes a)) None in (found ≡ image_code image a) ⊎ (found ≡ None))
+published_loses : (image : List ℕ) (rights : RightsMap) (bytes : ByteMap) (a : ℕ)
+    → IsBacked image rights bytes → (o : Option Rights) → rights (a / 4096) ≡ o
+    → (let found : Option ℕ = cond (is_published o) (Some (bytes a)) None in
+    (found ≡ image_code image a) ⊎ (found ≡ None))
 published_loses image rights bytes a b None e = inr refl
 published_loses image rights bytes a b (Some r) e = elim (cases_Bool r.exec) [
   | inl on ↦ rw on (inl (sym (b.held (a / 4096) r e (b.asked (a / 4096) r e on) a refl)))
@@ -55,7 +77,8 @@ published_loses image rights bytes a b (Some r) e = elim (cases_Bool r.exec) [
 ]
 
 -- with one more page that asks it is the image code, but for what isn't there
-with_loses : (image : List ℕ) (rights : RightsMap) (bytes : ByteMap) (q : ℕ) (r : Rights) → IsBacked image rights bytes → rights q ≡ Some r → asks_exec r.asked ≡ true
+with_loses : (image : List ℕ) (rights : RightsMap) (bytes : ByteMap) (q : ℕ) (r : Rights)
+    → IsBacked image rights bytes → rights q ≡ Some r → asks_exec r.asked ≡ true
     → Loses (code_with rights bytes q) (image_code image)
 with_loses image rights bytes q r b e asks a = elim (cases_Bool (eqb (a / 4096) q)) [
   | inl here ↦ rw here (inl (sym (b.held q r e asks a (eqb-true _ _ here))))
@@ -65,7 +88,8 @@ with_loses image rights bytes q r b e asks a = elim (cases_Bool (eqb (a / 4096) 
 -- a state that is fine publishes each page that asks
 publishes_fine : (s : State) → Fine s → Publishes s
 publishes_fine s b q r e asks =
-    first_unsafe_loses (image_entries s.setup.image) (code_with s.rights s.bytes q) (image_code s.setup.image) (with_loses s.setup.image s.rights s.bytes q r b e asks) b.safe
+    first_unsafe_loses (image_trust s.setup.image) (code_with s.rights s.bytes q)
+    (image_code s.setup.image) (with_loses s.setup.image s.rights s.bytes q r b e asks) b.safe
 
 -- ---- the start is fine
 
@@ -74,7 +98,8 @@ some_same : {X : Type 0} (x y : X) → Some x ≡ Some y → x ≡ y
 some_same x y e = cc
 
 -- where the first segment with a page asks PROT_EXEC the image code has its bytes
-code_asked : (image : List ℕ) (ss : List Segment) (a n : ℕ) → asked_in ss (a / 4096) ≡ Some n → asks_exec n ≡ true → code_of image ss a ≡ Some (byte_in image ss a)
+code_asked : (image : List ℕ) (ss : List Segment) (a n : ℕ) → asked_in ss (a / 4096) ≡ Some n
+    → asks_exec n ≡ true → code_of image ss a ≡ Some (byte_in image ss a)
 code_asked image [] a n e asks = absurd cc
 code_asked image (s ∷ ss) a n e asks = elim (cases_Bool (touches s (a / 4096))) [
   | inl on ↦
@@ -87,30 +112,39 @@ code_asked image (s ∷ ss) a n e asks = elim (cases_Bool (touches s (a / 4096))
 ]
 
 -- the rights of a page at the start are of what it asks, and it is published only as trusted text
-start_asked : (text : Bool) (key : ℕ) (o : Option ℕ) (r : Rights) → rights_at_start text key o ≡ Some r → (o ≡ Some r.asked) × (r.exec ≡ text)
+start_asked : (text : Bool) (key : ℕ) (o : Option ℕ) (r : Rights)
+    → rights_at_start text key o ≡ Some r → (o ≡ Some r.asked) × (r.exec ≡ text)
 start_asked text key None r e = absurd cc
-start_asked true key (Some n) r e = let same : published (fresh n key) ≡ r = some_same (published (fresh n key)) r e in (ap (λ (x : Rights). Some x.asked) same, sym (ap (λ (x : Rights). x.exec) same))
-start_asked false key (Some n) r e = let same : fresh n key ≡ r = some_same (fresh n key) r e in (ap (λ (x : Rights). Some x.asked) same, sym (ap (λ (x : Rights). x.exec) same))
+start_asked true key (Some n) r e = let same : published_rights (unpublished_rights n key) ≡ r =
+    some_same (published_rights (unpublished_rights n key)) r e in
+    (ap (λ (x : Rights). Some x.asked) same, sym (ap (λ (x : Rights). x.exec) same))
+start_asked false key (Some n) r e = let same : unpublished_rights n key ≡ r =
+    some_same (unpublished_rights n key) r e in
+    (ap (λ (x : Rights). Some x.asked) same, sym (ap (λ (x : Rights). x.exec) same))
 
 -- a page at the start is of the stack, or of the image
 first_asked : (setup : Setup) (q : ℕ) (r : Rights) → first_rights setup q ≡ Some r
-    → (fresh 3 0 ≡ r) ⊎ ((image_asked setup.image q ≡ Some r.asked) × (r.exec ≡ in_text setup (4096 * q)))
+    → (unpublished_rights 3 0 ≡ r)
+    ⊎ ((image_asked setup.image q ≡ Some r.asked)
+    × (r.exec ≡ in_text_of (image_trust setup.image) (4096 * q)))
 unfolding first_rights
 first_asked setup q r e = elim (cases_Bool (is_stack q)) [
-  | inl on ↦ inl (some_same (fresh 3 0) r (rw on at e))
-  | inr off ↦ inr (start_asked (in_text setup (4096 * q)) (cond (is_keyed setup.image q) 1 0) (image_asked setup.image q) r (rw off at e))
+  | inl on ↦ inl (some_same (unpublished_rights 3 0) r (rw on at e))
+  | inr off ↦ inr (start_asked (in_text_of (image_trust setup.image) (4096 * q))
+      (cond (is_keyed setup.image q) 1 0) (image_asked setup.image q) r (rw off at e))
 ]
 
 -- no page of the stack is published
-stack_closed : (r : Rights) → fresh 3 0 ≡ r → r.exec ≡ false
+stack_closed : (r : Rights) → unpublished_rights 3 0 ≡ r → r.exec ≡ false
 stack_closed r e = sym (ap (λ (x : Rights). x.exec) e)
 
 -- nor does one ask
-stack_asks : (r : Rights) → fresh 3 0 ≡ r → asks_exec r.asked ≡ false
+stack_asks : (r : Rights) → unpublished_rights 3 0 ≡ r → asks_exec r.asked ≡ false
 stack_asks r e = sym (ap (λ (x : Rights). asks_exec x.asked) e)
 
 -- what a tame image is loaded to
-first_backed : (setup : Setup) → IsTame setup → IsAccepted setup.image → IsBacked setup.image (first_rights setup) (image_byte setup.image)
+first_backed : (setup : Setup) → IsTame setup → IsAccepted setup.image
+    → IsBacked setup.image (first_rights setup) (image_byte setup.image)
 unfolding image_code
 first_backed setup tame accepted = record {
   safe = tame.safe;
@@ -125,23 +159,29 @@ first_backed setup tame accepted = record {
 }
 
 -- the state at the start is fine
-fine_loaded : (setup : Setup) → IsTame setup → IsAccepted setup.image → Fine (loaded setup)
-unfolding loaded
+fine_loaded : (setup : Setup) → IsTame setup → IsAccepted setup.image → Fine (first_state setup)
+unfolding first_state
 fine_loaded setup tame accepted = first_backed setup tame accepted
 
 -- every page that asks can be published at the start
-pub publishes_loaded : (setup : Setup) → IsTame setup → IsAccepted setup.image → Publishes (loaded setup)
-publishes_loaded setup tame accepted = publishes_fine (loaded setup) (fine_loaded setup tame accepted)
+pub publishes_loaded : (setup : Setup) → IsTame setup → IsAccepted setup.image
+    → Publishes (first_state setup)
+publishes_loaded setup tame accepted =
+    publishes_fine (first_state setup) (fine_loaded setup tame accepted)
 
 -- ---- each step keeps what is fine
 
 -- to publish a page that asks for it leaves all backed
-backed_put : (image : List ℕ) (rights : RightsMap) (bytes : ByteMap) (q : ℕ) (r : Rights) → rights q ≡ Some r → asks_exec r.asked ≡ true
-    → IsBacked image rights bytes → IsBacked image (put rights q (Some (published r))) bytes
+backed_put : (image : List ℕ) (rights : RightsMap) (bytes : ByteMap) (q : ℕ) (r : Rights)
+    → rights q ≡ Some r → asks_exec r.asked ≡ true
+    → IsBacked image rights bytes
+    → IsBacked image (with_value_at rights q (Some (published_rights r))) bytes
 backed_put image rights bytes q r e asks b = record {
   safe = b.safe;
   asked = λ p x h on. elim (cases_Bool (eqb p q)) [
-    | inl here ↦ (let same : published r ≡ x = some_same (published r) x (rw here at h) in sym (ap (λ (z : Rights). asks_exec z.asked) same) ∙ asks)
+    | inl here ↦ (let same : published_rights r
+        ≡ x = some_same (published_rights r) x (rw here at h) in
+        sym (ap (λ (z : Rights). asks_exec z.asked) same) ∙ asks)
     | inr off ↦ b.asked p x (rw off at h) on
   ];
   held = λ p x h want a place. elim (cases_Bool (eqb p q)) [
@@ -151,60 +191,81 @@ backed_put image rights bytes q r e asks b = record {
 }
 
 -- a judged page was one that asks
-fine_judged : (o : Option Found) (t q : ℕ) (r : Rights) (s : State) → s.rights q ≡ Some r → asks_exec r.asked ≡ true → Fine s → Fine (judged o t q r s)
-fine_judged None t q r s e asks b = backed_put s.setup.image s.rights s.bytes q r e asks b
-fine_judged (Some first) t q r s e asks b = b
+fine_judged : (o : Option Found) (q : ℕ) (r : Rights) (t : Runner) (s : State) → s.rights q ≡ Some r
+    → asks_exec r.asked ≡ true → Fine s → Fine (after_verdict o q r t s)
+fine_judged None q r t s e asks b = backed_put s.setup.image s.rights s.bytes q r e asks b
+fine_judged (Some first) q r t s e asks b = b
 
 -- an exec fault publishes only what asks
-fine_fault : (o : Option Rights) (t rip x : ℕ) (s : State) → s.rights (x / 4096) ≡ o → Fine s → Fine (exec_fault_on o t rip x s)
-fine_fault None t rip x s e b = b
-fine_fault (Some r) t rip x s e b = elim (cases_Bool (asks_exec r.asked && ltb (x / 4096) (2 ^ 35))) [
-  | inl on ↦ rw on (fine_judged (first_unsafe (image_entries s.setup.image) (code_with s.rights s.bytes (x / 4096))) t (x / 4096) r s e (and_parts _ _ on).0 b)
+fine_fault : (o : Option Rights) (x : ℕ) (t : Runner) (s : State) → s.rights (x / 4096) ≡ o → Fine s
+    → Fine (after_exec_fault o x t s)
+fine_fault None x t s e b = b
+fine_fault (Some r) x t s e b = elim (cases_Bool (asks_exec r.asked && ltb (x / 4096) (2 ^ 35))) [
+  | inl on ↦ rw on (fine_judged
+      (first_unsafe (image_trust s.setup.image) (code_with s.rights s.bytes (x / 4096))) (x / 4096)
+      r t s e (and_parts _ _ on).0 b)
   | inr off ↦ rw off b
 ]
 
 -- a reply that changes neither rights nor bytes
-abbrev LeavesPages : State → Reply → Type 0
+abbrev LeavesPages : State → CallResult → Type 0
 LeavesPages s (Refusal e) = Unit {0}
 LeavesPages s (Answer v c) = (c.rights ≡ s.rights) × (c.bytes ≡ s.bytes)
 LeavesPages s (Quit code) = Unit {0}
 
 -- a refusal leaves pages alone
-refuse_leaves : (s : State) (b : Bool) (e : ℕ) (rest : Reply) → LeavesPages s rest → LeavesPages s (or_refuse b e rest)
+refuse_leaves : (s : State) (b : Bool) (e : ℕ) (rest : CallResult) → LeavesPages s rest
+    → LeavesPages s (or_refuse b e rest)
 refuse_leaves s true e rest h = tt
 refuse_leaves s false e rest h = h
 
 -- write leaves them alone
-write_leaves : (s : State) (t : Thread) (fd buf n : ℕ) → LeavesPages s (write_of s t fd buf n)
-unfolding write_of
+write_leaves : (s : State) (t : Thread) (fd buf n : ℕ) → LeavesPages s (write_result s t fd buf n)
+unfolding write_result
 write_leaves s t fd buf n =
-    let made : Change = (let c = nothing s t in record c { output = s.output ++ taken s.bytes buf n }) in
+    let made : Change = (let c = no_change s t in
+    record c { output = s.output ++ bytes_of_range s.bytes buf n }) in
     let full : Bool = ltb 1048576 (length s.output + n) in
     let absent : Bool = is_some (stop (whole s.rights) false t.pkru buf n) in
-    refuse_leaves s (not (eqb (fd % 2 ^ 32) 1)) 9 (or_refuse absent 14 (or_refuse full 28 (Answer n made)))
-    (refuse_leaves s absent 14 (or_refuse full 28 (Answer n made)) (refuse_leaves s full 28 (Answer n made) (refl, refl)))
+    refuse_leaves s (not (eqb (fd % 2 ^ 32) 1)) 9
+    (or_refuse absent 14 (or_refuse full 28 (Answer n made)))
+    (refuse_leaves s absent 14 (or_refuse full 28 (Answer n made))
+    (refuse_leaves s full 28 (Answer n made) (refl, refl)))
 
 -- no call so far changes rights or bytes
-reply_leaves : (s : State) (t : Thread) → LeavesPages s (reply s t)
-unfolding reply
-reply_leaves s t = elim (cases_Bool (eqb (reg t 0) 231)) [
+reply_leaves : (s : State) (number : ℕ) (t : Thread) → LeavesPages s (call_result s number t)
+unfolding call_result
+reply_leaves s number t = elim (cases_Bool (eqb (register t 0) 231)) [
   | inl exit ↦ rw exit tt
-  | inr other ↦ rw other (elim (cases_Bool (eqb (reg t 0) 1)) [ inl on ↦ rw on (write_leaves s t (reg t 7) (reg t 6) (reg t 2)) | inr off ↦ rw off tt ])
+  | inr other ↦ rw other (elim (cases_Bool (eqb (register t 0) 1)) [
+    | inl on ↦
+        rw on (write_leaves s t (register t 7) (register t 6) (register t 2))
+    | inr off ↦ rw off tt
+  ])
 ]
 
 -- a new thread leaves them alone
-fine_made : (setup : Setup) (o : Option Thread) (s : State) → Fine s → Fine (with_made setup o s)
-fine_made setup None s b = b
-fine_made setup (Some u) s b = b
+fine_made : (o : Option Thread) (s : State) → Fine s → Fine (with_new_thread o s)
+fine_made None s b = b
+fine_made (Some u) s b = b
 
 -- a change that leaves pages alone keeps them fine
-fine_changed : (c : Change) (s : State) → c.rights ≡ s.rights → c.bytes ≡ s.bytes → Fine s → Fine (changed c s)
+fine_changed : (c : Change) (s : State) → c.rights ≡ s.rights → c.bytes ≡ s.bytes → Fine s
+    → Fine (with_change c s)
 fine_changed c s same_rights same_bytes b = rw (same_rights, same_bytes) b
 
 -- so does a reply
-fine_replied : (r : Reply) (t : ℕ) (old new : Thread) (s : State) → LeavesPages s r → Fine s → Fine (replied r t old new s)
+fine_replied : (r : CallResult) (t : ℕ) (old new : Thread) (s : State) → LeavesPages s r → Fine s
+    → Fine (after_call r (record { number = t; thread = old }) new s)
 fine_replied (Refusal e) t old new s h b = b
-fine_replied (Answer v c) t old new s h b = fine_made s.setup c.made (went t old (answered new v c) None false (changed c s)) (fine_changed c s h.0 h.1 b)
+fine_replied (Answer v c) t old new s h b =
+    fine_made c.made (after_move
+    (record {
+      runner = record { number = t; thread = old };
+      after = (caller_after v c new);
+      executed = None;
+      free = false;
+    }) (with_change c s)) (fine_changed c s h.0 h.1 b)
 fine_replied (Quit code) t old new s h b = b
 
 -- a plan that neither loads nor writes
@@ -220,14 +281,19 @@ source_plain None f = tt
 source_plain (Some x) f = refl
 
 -- arithmetic of registers
-alu_plain : (op : AluOp) (n : ℕ) (src : Src) (len : ℕ) (t : Thread) → IsPlain (plan_alu op n src len t)
+alu_plain : (op : AluOp) (n : ℕ) (src : Src) (len : ℕ) (t : Thread)
+    → IsPlain (plan_alu op n src len t)
 unfolding plan_alu
-alu_plain op n src len t = source_plain (source t src) (λ x. concluded (onward len t) op n (alu op w32 (low_half (reg t n)) x t.flags))
+alu_plain op n src len t =
+    source_plain (source t src)
+    (λ x. with_outcome (onward len t) op n (alu op w32 (low_half (register t n)) x t.flags))
 
 -- WRPKRU
 wrpkru_plain : (len : ℕ) (t : Thread) → IsPlain (plan_wrpkru len t)
 unfolding plan_wrpkru
-wrpkru_plain len t = elim (cases_Bool (eqb (low_half (reg t 1)) 0 && eqb (low_half (reg t 2)) 0)) [ inl on ↦ rw on refl | inr off ↦ rw off tt ]
+wrpkru_plain len t = elim (cases_Bool (eqb (low_half (register t 1)) 0
+    && eqb (low_half (register t 2)) 0))
+    [ inl on ↦ rw on refl | inr off ↦ rw off tt ]
 
 -- no instruction so far looks at memory
 plan_plain : (insn : Insn) (len : ℕ) (t : Thread) → IsPlain (plan insn len t)
@@ -241,14 +307,15 @@ plan_plain Wrpkru len t = wrpkru_plain len t
 plan_plain other len t = tt
 
 -- what comes of it writes nothing
-abbrev WritesNothing : Did → Type 0
+abbrev WritesNothing : Effect → Type 0
 WritesNothing (Done t w) = w ≡ None
 WritesNothing (Stopped a) = Unit {0}
 WritesNothing Called = Unit {0}
 
 -- a plain plan writes nothing
-does_nothing : (p : Plan) (seen : Seen) (bytes : ByteMap) (pkru rip : ℕ) → IsPlain p → WritesNothing (does p seen bytes pkru rip)
-unfolding does
+does_nothing : (p : Plan) (seen : Seen) (bytes : ByteMap) (pkru rip : ℕ) → IsPlain p
+    → WritesNothing (effect p seen bytes pkru rip)
+unfolding effect
 does_nothing (Ask a n k) seen bytes pkru rip h = absurd h
 does_nothing (Give t None) seen bytes pkru rip h = refl
 does_nothing (Give t (Some w)) seen bytes pkru rip h = absurd cc
@@ -256,36 +323,48 @@ does_nothing Refuse seen bytes pkru rip h = tt
 does_nothing Call seen bytes pkru rip h = tt
 
 -- what writes nothing keeps pages fine
-fine_did : (d : Did) (insn : Insn) (len skip t : ℕ) (old : Thread) (s : State) → WritesNothing d → Fine s → Fine (did d insn len skip t old s)
+fine_did : (d : Effect) (insn : Insn) (len skip t : ℕ) (old : Thread) (s : State) → WritesNothing d
+    → Fine s → Fine (after_instruction d (record { insn = insn; len = len; skip = skip })
+    (record { number = t; thread = old }) s)
 fine_did (Done new None) insn len skip t old s h b = b
 fine_did (Done new (Some w)) insn len skip t old s h b = absurd cc
 fine_did (Stopped (Fault cause a)) insn len skip t old s h b = b
 fine_did (Stopped (Missing q)) insn len skip t old s h b = b
-fine_did Called insn len skip t old s h b = fine_replied (reply s (entered len old)) t old (entered len old) s (reply_leaves s (entered len old)) b
+fine_did Called insn len skip t old s h b =
+    fine_replied (call_result s t (behind_syscall len old)) t old (behind_syscall len old) s
+    (reply_leaves s t (behind_syscall len old)) b
 
 -- a step without its guard
-fine_moved : (x : Fetched) (t : ℕ) (old : Thread) (s : State) → Fine s → Fine (moved x t old s)
+fine_moved : (x : FetchOutcome) (t : ℕ) (old : Thread) (s : State) → Fine s
+    → Fine (after_fetch x (record { number = t; thread = old }) s)
 fine_moved (Runs insn len skip) t old s b =
-    fine_did (does (plan insn len old) (whole s.rights) s.bytes old.pkru old.rip) insn len skip t old s (does_nothing (plan insn len old) (whole s.rights) s.bytes old.pkru old.rip (plan_plain insn len old)) b
-fine_moved (Need x) t old s b = fine_fault (s.rights (x / 4096)) t old.rip x s refl b
+    fine_did (effect (plan insn len old) (whole s.rights) s.bytes old.pkru old.rip) insn len skip t
+    old s (does_nothing (plan insn len old) (whole s.rights) s.bytes old.pkru old.rip
+    (plan_plain insn len old)) b
+fine_moved (Need x) t old s b =
+    fine_fault (s.rights (x / 4096)) x (record { number = t; thread = old }) s refl b
 fine_moved Wrong t old s b = b
 
 -- a step, by the thread that runs
-fine_by : (o : Option Thread) (t : ℕ) (s new : State) → Fine s → stepped_by o t s ≡ Some new → Fine new
+fine_by : (o : Option Thread) (t : ℕ) (s new : State) → Fine s → after_step_of o t s ≡ Some new
+    → Fine new
 fine_by None t s new b e = absurd cc
 fine_by (Some old) t s new b e =
     let later : State = record s { steps = s.steps + 1 } in
-    subst Fine (some_same (moved (fetched (code s) old.rip) t old later) new e) (fine_moved (fetched (code s) old.rip) t old later b)
+    subst Fine (some_same (after_fetch (fetch (code s) old.rip)
+    (record { number = t; thread = old }) later) new e) (fine_moved (fetch (code s)
+    old.rip) t old later b)
 
 -- a step
 fine_step : (t : ℕ) (s new : State) → Fine s → step t s ≡ Some new → Fine new
 unfolding step
-fine_step t s new b e = fine_by (runner s t) t s new b e
+fine_step t s new b e = fine_by (ready_thread s t) t s new b e
 
 -- ---- so do all steps of a journal
 
 -- steps behind others
-fine_then : (o : Option State) (t n : ℕ) (new : State) → ((s : State) → o ≡ Some s → Fine s) → ((s : State) → Fine s → steps_of t n s ≡ Some new → Fine new)
+fine_then : (o : Option State) (t n : ℕ) (new : State) → ((s : State) → o ≡ Some s → Fine s)
+    → ((s : State) → Fine s → steps_of t n s ≡ Some new → Fine new)
     → then_ o (steps_of t n) ≡ Some new → Fine new
 fine_then None t n new b k e = absurd cc
 fine_then (Some s) t n new b k e = k s (b s refl) e
@@ -294,29 +373,43 @@ fine_then (Some s) t n new b k e = k s (b s refl) e
 fine_steps : (t n : ℕ) (s new : State) → Fine s → steps_of t n s ≡ Some new → Fine new
 unfolding steps_of
 fine_steps t zero s new b e = subst Fine (some_same s new e) b
-fine_steps t (suc n) s new b e = fine_then (step t s) t n new (λ mid m. fine_step t s mid b m) (λ mid k. fine_steps t n mid new k) e
+fine_steps t (suc n) s new b e =
+    fine_then (step t s) t n new (λ mid m. fine_step t s mid b m)
+    (λ mid k. fine_steps t n mid new k) e
 
 -- entries from a state on
-fine_from : (o : Option State) (entries : List Entry) (new : State) → ((s : State) → o ≡ Some s → Fine s) → replay_from o entries ≡ Some new → Fine new
+fine_from : (o : Option State) (entries : List Entry) (new : State)
+    → ((s : State) → o ≡ Some s → Fine s) → replay_from o entries ≡ Some new → Fine new
 fine_from o [] new b e = b new e
 fine_from o (entry ∷ entries) new b e =
     fine_from (then_ o (steps_of entry.thread entry.count)) entries new
-    (λ s k. fine_then o entry.thread entry.count s b (λ mid m. fine_steps entry.thread entry.count mid s m) k) e
+    (λ s k. fine_then o entry.thread entry.count s b
+    (λ mid m. fine_steps entry.thread entry.count mid s m) k) e
 
 -- a journal from the start
-fine_always : (setup : Setup) (entries : List Entry) (s : State) → IsTame setup → IsAccepted setup.image → replay setup entries ≡ Some s → Fine s
+fine_always : (setup : Setup) (entries : List Entry) (s : State) → IsTame setup
+    → IsAccepted setup.image → replay setup entries ≡ Some s → Fine s
 unfolding replay
 fine_always setup entries s tame accepted e =
-    fine_from (Some (loaded setup)) entries s (λ t k. subst Fine (some_same (loaded setup) t k) (fine_loaded setup tame accepted)) e
+    fine_from (Some (first_state setup)) entries s
+    (λ t k. subst Fine (some_same (first_state setup) t k) (fine_loaded setup tame accepted)) e
 
--- every page that asks can be published so many steps behind a journal, as in the midst of its next entry
-pub publishes_onward : (setup : Setup) (entries : List Entry) (t n : ℕ) (s new : State) → IsTame setup → IsAccepted setup.image → replay setup entries ≡ Some s → steps_of t n s ≡ Some new → Publishes new
-publishes_onward setup entries t n s new tame accepted e later = publishes_fine new (fine_steps t n s new (fine_always setup entries s tame accepted e) later)
+-- every page that asks can be published so many steps behind a journal, as in the midst of its next
+-- entry
+pub publishes_onward : (setup : Setup) (entries : List Entry) (t n : ℕ) (s new : State)
+    → IsTame setup → IsAccepted setup.image → replay setup entries ≡ Some s
+    → steps_of t n s ≡ Some new → Publishes new
+publishes_onward setup entries t n s new tame accepted e later =
+    publishes_fine new (fine_steps t n s new (fine_always setup entries s tame accepted e) later)
 
 -- and one step behind it
-pub publishes_step : (setup : Setup) (entries : List Entry) (t : ℕ) (s new : State) → IsTame setup → IsAccepted setup.image → replay setup entries ≡ Some s → step t s ≡ Some new → Publishes new
-publishes_step setup entries t s new tame accepted e later = publishes_fine new (fine_step t s new (fine_always setup entries s tame accepted e) later)
+pub publishes_step : (setup : Setup) (entries : List Entry) (t : ℕ) (s new : State) → IsTame setup
+    → IsAccepted setup.image → replay setup entries ≡ Some s → step t s ≡ Some new → Publishes new
+publishes_step setup entries t s new tame accepted e later =
+    publishes_fine new (fine_step t s new (fine_always setup entries s tame accepted e) later)
 
 -- every page that asks can be published, in each state that a journal leads to
-pub publishes_always : (setup : Setup) (entries : List Entry) (s : State) → IsTame setup → IsAccepted setup.image → replay setup entries ≡ Some s → Publishes s
-publishes_always setup entries s tame accepted e = publishes_fine s (fine_always setup entries s tame accepted e)
+pub publishes_always : (setup : Setup) (entries : List Entry) (s : State) → IsTame setup
+    → IsAccepted setup.image → replay setup entries ≡ Some s → Publishes s
+publishes_always setup entries s tame accepted e =
+    publishes_fine s (fine_always setup entries s tame accepted e)

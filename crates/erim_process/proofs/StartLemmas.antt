@@ -1,17 +1,58 @@
 -- The state at the start, field by field.
-use Rattle.std.proofs.Common.{◌≡◌, ◌≤◌, ℕ, ltb, ltb-false, ◌||◌, Bool, true, false, is_some, List, [], ◌∷◌, Option, Some, None, ap, sym, ◌∙◌, refl}
+use Rattle.std.proofs.lemmas.Nat.{pow_pos}
+use Rattle.std.proofs.lemmas.Bool.{le-ltb}
+use Rattle.std.proofs.Math.Nat.{pow-suc, div-eq_of_lt}
+use Rattle.std.proofs.Math.Path.{fun_ext}
+use Rattle.erim_defs.specs.Bits.{has_bit}
+use Rattle.std.proofs.Common.{◌≡◌, ◌≤◌, ◌<◌, ◌*◌, ◌^◌, ◌/◌, zero, suc, arith, ℕ, ltb, ltb-false}
+use Rattle.std.proofs.Common.{◌||◌, Bool, true, false, is_some, List, [], ◌∷◌, Option, Some, None}
+use Rattle.std.proofs.Common.{ap, sym, subst, ◌∙◌, refl}
 use Rattle.erim_defs.specs.declared.found.Found.{Found}
 use Rattle.erim_defs.specs.declared.machine.Thread.{Thread}
-use Rattle.erim_defs.specs.Pages.{RightsMap, ByteMap}
-use Rattle.erim_defs.specs.State.{Setup, State, any_live}
-use Rattle.erim_defs.specs.Code.{or_else}
+use Rattle.erim_defs.specs.Machine.Pages.{RightsMap, ByteMap}
+use Rattle.erim_defs.specs.Machine.State.{Setup, State, any_live}
+use Rattle.erim_defs.specs.Output.Journal.{AreEntries}
+use Rattle.erim_defs.specs.Inspection.Code.{or_else, Code}
 use Rattle.erim_defs.specs.declared.machine.Entry.{Entry}
-use Rattle.erim_defs.specs.Replay.{replay}
-use Rattle.erim_defs.specs.Start.{loaded, first_rights, first_thread, image_byte, trusted_unsafe, frames_needed}
+use Rattle.erim_defs.specs.Machine.Replay.{replay}
+use Rattle.erim_defs.specs.Machine.Start.{first_state, first_rights, first_thread, image_byte}
+use Rattle.erim_defs.specs.Machine.Start.{trusted_unsafe, frames_needed}
 use Rattle.erim_process.specs.declared.start_fault.StartFault.{StartFault}
 use Rattle.erim_process.specs.declared.start_fault.StartFault.TheVariants.{TooFewFrames, NotYet}
-use Rattle.erim_process.specs.Starting.{start_fault, start_if, if_trusted, is_wild}
-use Rattle.erim_process.specs.Stepping.{IsTame}
+use Rattle.erim_process.specs.StartFaults.{start_fault, start_if, if_trusted, is_wild}
+use Rattle.erim_process.specs.StepFacts.{IsTame}
+use Rattle.erim_defs.specs.Inspection.Unsafe.{IsFirstUnsafe, first_unsafe}
+use Rattle.erim_defs.specs.Inspection.Image.{text_of, image_code, image_trust, trusted_code}
+use Rattle.erim_defs.proofs.UnsafeLemmas.{first_is}
+
+-- keys 0 and 1 are bits 0 and 1 of 3
+first_keys : (k : ℕ) → has_bit 3 k ≡ ltb k 2
+first_keys zero = refl
+first_keys (suc zero) = refl
+first_keys (suc (suc k)) =
+    let low : 0 < 2 ^ k = pow_pos k in
+    let one : 2 ^ suc k ≡ 2 ^ k * 2 = pow-suc 2 k in
+    let two : 2 ^ suc (suc k) ≡ 2 ^ suc k * 2 = pow-suc 2 (suc k) in
+    let small : 3 < 2 ^ suc (suc k) = omega (arith, low, one, two) in
+    let none : 3 / 2 ^ suc (suc k) ≡ 0 = div-eq_of_lt small in
+    let past : ltb (suc (suc k)) 2 ≡ false = le-ltb (suc (suc k)) 2 (omega arith) in
+    rw (none, past) refl
+
+-- the first unsafe sequence of a code that is laid for an image is that of the image
+pub image_first : (image : List ℕ) (c : Code) (r : Option Found) → c ≡ image_code image
+    → IsFirstUnsafe (image_trust image) c 0 (2 ^ 47) r
+    → r ≡ first_unsafe (image_trust image) (image_code image)
+image_first image c r laid first =
+    first_is (image_trust image) (image_code image) r (rw laid at first)
+
+-- and of its part on trusted text, what the text by itself holds unsafe
+pub trusted_first : (image : List ℕ) (c text : Code) (r : Option Found) → c ≡ image_code image
+    → text ≡ text_of (image_trust image) c → IsFirstUnsafe (image_trust image) text 0 (2 ^ 47) r
+    → r ≡ trusted_unsafe image
+unfolding trusted_unsafe trusted_code
+trusted_first image c text r laid part first =
+    first_is (image_trust image) (text_of (image_trust image) (image_code image)) r
+    (rw (part, laid) at first)
 
 abbrev start_state : Setup → RightsMap → ByteMap → List Thread → List ℕ → State
 start_state setup rights bytes threads output = record {
@@ -19,22 +60,29 @@ start_state setup rights bytes threads output = record {
   rights = rights;
   bytes = bytes;
   threads = threads;
-  keys = λ k. ltb k 2;
+  keys = λ k. has_bit 3 k;
   output = output;
   end = None;
   steps = 0;
   escape = None;
 }
 
-pub loaded_is : (setup : Setup) (rights : RightsMap) (bytes : ByteMap) (threads : List Thread) (output : List ℕ)
-    → rights ≡ first_rights setup → bytes ≡ image_byte setup.image → threads ≡ first_thread setup ∷ [] → output ≡ []
-    → start_state setup rights bytes threads output ≡ loaded setup
-unfolding loaded
+pub loaded_is : (setup : Setup) (rights : RightsMap) (bytes : ByteMap) (threads : List Thread)
+    (output : List ℕ)
+    → rights ≡ first_rights setup → bytes ≡ image_byte setup.image
+    → threads ≡ first_thread setup ∷ [] → output ≡ []
+    → start_state setup rights bytes threads output ≡ first_state setup
+unfolding first_state
 loaded_is setup rights bytes threads output r b t o =
     ap (λ (x : RightsMap). start_state setup x bytes threads output) r
     ∙ ap (λ (x : ByteMap). start_state setup (first_rights setup) x threads output) b
-    ∙ ap (λ (x : List Thread). start_state setup (first_rights setup) (image_byte setup.image) x output) t
-    ∙ ap (λ (x : List ℕ). start_state setup (first_rights setup) (image_byte setup.image) (first_thread setup ∷ []) x) o
+    ∙ ap (λ (x : List Thread). start_state setup (first_rights setup) (image_byte setup.image) x
+    output) t
+    ∙ ap (λ (x : List ℕ). start_state setup (first_rights setup) (image_byte setup.image)
+    (first_thread setup ∷ []) x) o
+    ∙ ap (λ (x : ℕ → Bool). let s : State = start_state setup (first_rights setup)
+    (image_byte setup.image) (first_thread setup ∷ []) [] in
+    let t : State = record s { keys = x } in t) (fun_ext first_keys)
 
 none_first : {X : Type 0} (x y : Option X) → or_else x y ≡ None → x ≡ None
 none_first None y h = refl
@@ -51,18 +99,21 @@ if_none false fault h = refl
 -- where nothing keeps the image from starting, its trusted text holds nothing unsafe by itself
 pub start_trusted : (setup : Setup) → start_fault setup ≡ None → trusted_unsafe setup.image ≡ None
 unfolding start_fault
-start_trusted setup h = no_trusted (trusted_unsafe setup.image) (none_first (if_trusted (trusted_unsafe setup.image)) _ h)
+start_trusted setup h = no_trusted (trusted_unsafe setup.image)
+    (none_first (if_trusted (trusted_unsafe setup.image)) _ h)
   where
     no_trusted : (found : Option Found) → if_trusted found ≡ None → found ≡ None
     no_trusted None h = refl
     no_trusted (Some found) h = absurd cc
 
 -- where nothing keeps the image from starting there is room
-pub start_room : (setup : Setup) → start_fault setup ≡ None → frames_needed setup.image ≤ setup.frames
+pub start_room : (setup : Setup) → start_fault setup ≡ None
+    → frames_needed setup.image ≤ setup.frames
 unfolding start_fault
 start_room setup h =
     let second = none_second (if_trusted (trusted_unsafe setup.image)) _ h in
-    ltb-false setup.frames (frames_needed setup.image) (if_none _ _ (none_first _ (start_if (is_wild setup) NotYet) second))
+    ltb-false setup.frames (frames_needed setup.image)
+    (if_none _ _ (none_first _ (start_if (is_wild setup) NotYet) second))
 
 none_is : {X : Type 0} (o : Option X) → is_some o ≡ false → o ≡ None
 none_is None h = refl
@@ -77,15 +128,21 @@ pub start_tame : (setup : Setup) → start_fault setup ≡ None → IsTame setup
 unfolding start_fault
 start_tame setup h =
     let second = none_second (if_trusted (trusted_unsafe setup.image)) _ h in
-    let wild = if_none (is_wild setup) NotYet (none_second (start_if (ltb setup.frames (frames_needed setup.image)) (TooFewFrames (frames_needed setup.image))) _ second) in
+    let wild = if_none (is_wild setup) NotYet
+    (none_second (start_if (ltb setup.frames (frames_needed setup.image))
+    (TooFewFrames (frames_needed setup.image))) _ second) in
     let both = neither _ _ wild in
     record { safe = none_is _ both.0; sealed = both.1 }
 
 -- its thread is live
-pub start_live : (setup : Setup) (s : State) → s ≡ loaded setup → any_live s.threads ≡ true
-unfolding any_live first_thread loaded
+pub start_live : (setup : Setup) (s : State) → s ≡ first_state setup → any_live s.threads ≡ true
+unfolding any_live first_thread first_state
 start_live setup s e = rw e refl
 
-pub replay_start : (setup : Setup) (entries : List Entry) (s : State) → entries ≡ [] → s ≡ loaded setup → replay setup entries ≡ Some s
+pub no_entries : (entries : List Entry) → entries ≡ [] → AreEntries entries
+no_entries entries e = subst AreEntries (sym e) tt
+
+pub replay_start : (setup : Setup) (entries : List Entry) (s : State) → entries ≡ []
+    → s ≡ first_state setup → replay setup entries ≡ Some s
 unfolding replay
 replay_start setup entries s e h = ap (replay setup) e ∙ ap Some (sym h)

@@ -1,9 +1,9 @@
 pub mod Machine
-pub mod Called
-pub mod Executes
-pub mod Stepping
-pub mod Loading
-pub mod Ended
-pub mod Recorded
-pub mod Replayed
-pub mod Starting
+pub mod WriteCall
+pub mod Execution
+pub mod StepFacts
+pub mod ImagePages
+pub mod Ends
+pub mod ProcessValue
+pub mod ProcessInvariant
+pub mod StartFaults

@@ -1,19 +1,20 @@
 //! The system calls.
 
-ghost use Rattle.std.specs.Prelude.{◌≡◌, ◌<◌, ◌≤◌, ◌+◌, ◌-◌, ◌%◌, ℕ, length, false, is_some, is_none, vec_capacity, IsTrue};
-ghost use Rattle.erim_defs.specs.Access.{stop, whole};
-ghost use Rattle.erim_defs.specs.Pages.{taken};
-ghost use Rattle.erim_defs.specs.Meaning.{reg};
-ghost use Rattle.erim_defs.specs.Image.{image_trust};
-ghost use Rattle.erim_defs.specs.State.{Setup};
-ghost use Rattle.erim_defs.specs.Calls.{Quit, reply};
-ghost use Rattle.erim_defs.specs.Step.{flags_word, entered, replied};
-ghost use Rattle.erim_process.specs.Machine.{machine_state, IsRoomy};
+ghost use Rattle.std.specs.Prelude.{◌≡◌, ◌<◌, ◌≤◌, ◌+◌, ◌-◌, ◌%◌, ℕ, length, false, is_some};
+ghost use Rattle.std.specs.Prelude.{is_none, vec_capacity, IsTrue};
+ghost use Rattle.erim_defs.specs.Machine.Access.{stop, whole};
+ghost use Rattle.erim_defs.specs.Machine.Pages.{bytes_of_range};
+ghost use Rattle.erim_defs.specs.Machine.Meaning.{register};
+ghost use Rattle.erim_defs.specs.Machine.Calls.{Quit, call_result};
+ghost use Rattle.erim_defs.specs.Machine.Step.{flags_word, after_call, behind_syscall};
+ghost use Rattle.erim_process.specs.Machine.{Becomes, IsRoomy};
 ghost use Rattle.page_store.specs.Answers.{rights_in};
 
 use crate::machine::Machine;
 use crate::registers::{onward, register, set_register};
-use crate::writing::refusal;
+use crate::write_call::refusal;
+use erim_defs::linux::{ENOSYS, SYS_EXIT_GROUP, SYS_WRITE};
+use erim_defs::register::{R11, RAX, RCX, RDI};
 use erim_defs::{End, Flags, Thread, Trust};
 use page_store::{Memory, Pages};
 
@@ -40,21 +41,22 @@ fn flags_word(flags: Flags) -> u64
     word
 }
 
-/// The thread as SYSCALL leaves it, before its call.
-pub(crate) fn entered(thread: &Thread, len: u8) -> Thread
-    ensures { result ≡ entered len thread.now }
+/// The thread behind SYSCALL, before its call.
+pub(crate) fn behind_syscall(thread: &Thread, len: u8) -> Thread
+    ensures { result ≡ behind_syscall len thread.now }
 {
     let mut new = *thread;
     onward(&mut new, len);
     let rip = new.rip;
-    set_register(&mut new, 1, rip);
-    set_register(&mut new, 11, flags_word(thread.flags));
+    set_register(&mut new, RCX, rip);
+    set_register(&mut new, R11, flags_word(thread.flags));
     new
 }
 
 /// Are the n bytes from an address on readable under this PKRU?
 pub(crate) fn are_readable<P: Pages>(pages: &mut P, pkru: u32, buf: u64, n: u64) -> bool
-    ensures answer { result ≡ is_none (stop (whole (rights_in (P.seen pages.old))) false pkru buf n) }
+    ensures answer { result ≡ is_none (stop (whole (rights_in (P.seen pages.old))) false pkru buf
+        n) }
     ensures seen { P.seen pages.new ≡ P.seen pages.old }
     ensures bytes { P.bytes pages.new ≡ P.bytes pages.old }
     ensures frames { P.frames pages.new ≡ P.frames pages.old }
@@ -74,33 +76,35 @@ impl<P: Pages> Machine<P> {
     /// The call exit_group: its status is the low byte of RDI.
     fn exit(&mut self, trust: &Trust, t: u8, old: &Thread, new: &Thread)
         requires there { t < length self.old.threads.items }
-        ensures state { (setup : Setup) → image_trust setup.image ≡ trust.now
-            → machine_state P.Memory setup self.new ≡ replied (Quit (reg new.now 7 % 256)) t old.now new.now (machine_state P.Memory setup self.old) }
+        ensures state { Becomes P.Memory trust.now self.old self.new
+            (after_call (Quit (register new.now 7 % 256)) (record { number = t; thread = old.now })
+            new.now) }
         ensures steps { self.new.steps ≡ self.old.steps }
         ensures roomy { IsRoomy self.old → IsRoomy self.new }
         ensures count { length self.new.threads.items ≡ length self.old.threads.items }
     {
         self.go(trust, t, old, new, None, false);
         self.end = Some(End::Exit {
-            code: (register(new, 7) % 256) as u8,
+            code: (register(new, RDI) % 256) as u8,
         });
     }
 
     /// The system call of a thread. `new` is the thread behind SYSCALL.
-    #[tactic(auto, unfolding(erim_defs::specs::Calls::reply))]
+    #[tactic(auto, unfolding(erim_defs::specs::Machine::Calls::call_result))]
     pub(crate) fn call(&mut self, trust: &Trust, t: u8, old: &Thread, new: &Thread)
         requires there { t < length self.old.threads.items }
         requires roomy { IsRoomy self.old }
-        ensures state { (setup : Setup) → image_trust setup.image ≡ trust.now
-            → machine_state P.Memory setup self.new ≡ replied (reply (machine_state P.Memory setup self.old) new.now) t old.now new.now (machine_state P.Memory setup self.old) }
+        ensures state { Becomes P.Memory trust.now self.old self.new
+            (λ s. after_call (call_result s t new.now) (record { number = t; thread = old.now })
+            new.now s) }
         ensures steps { self.new.steps ≡ self.old.steps }
         ensures roomy { IsRoomy self.new }
         ensures count { length self.new.threads.items ≡ length self.old.threads.items }
     {
-        match register(new, 0) {
-            231 => self.exit(trust, t, old, new),
-            1 => self.write(trust, t, old, new),
-            _ => self.answer(trust, t, old, new, refusal(38)),
+        match register(new, RAX) {
+            SYS_EXIT_GROUP => self.exit(trust, t, old, new),
+            SYS_WRITE => self.write(trust, t, old, new),
+            _ => self.answer(trust, t, old, new, refusal(ENOSYS)),
         }
     }
 }

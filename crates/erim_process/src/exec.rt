@@ -1,9 +1,10 @@
 //! Executes instructions on a thread.
 
-ghost use Rattle.erim_defs.specs.Meaning.{plan, plan_alu, plan_jcc, plan_wrpkru};
+ghost use Rattle.erim_defs.specs.Machine.Meaning.{plan, plan_alu, plan_jcc, plan_wrpkru};
 ghost use Rattle.erim_defs.specs.declared.insn.AluOp.TheVariants.{Xor, Cmp};
-ghost use Rattle.erim_process.specs.Executes.{Executes};
+ghost use Rattle.erim_process.specs.Execution.{Executes};
 
+use erim_defs::register::{RAX, RCX, RDX};
 use erim_defs::{AluOp, Insn, Place, Src, Thread, Width};
 
 mod answer;
@@ -16,7 +17,7 @@ use arithmetic::{compare, xor};
 use conditions::condition;
 
 /// XOR of the low half of a register with a source.
-#[tactic(auto, unfolding(erim_defs::specs::Meaning::plan_alu))]
+#[tactic(auto, unfolding(erim_defs::specs::Machine::Meaning::plan_alu))]
 fn exec_xor(n: u8, src: Src, len: u8, thread: &mut Thread) -> Exec
     ensures { Executes (plan_alu Xor n src len thread.old) thread.old thread.new result }
 {
@@ -31,7 +32,7 @@ fn exec_xor(n: u8, src: Src, len: u8, thread: &mut Thread) -> Exec
 }
 
 /// CMP of the low half of a register with a source: only flags come of it.
-#[tactic(auto, unfolding(erim_defs::specs::Meaning::plan_alu))]
+#[tactic(auto, unfolding(erim_defs::specs::Machine::Meaning::plan_alu))]
 fn exec_compare(n: u8, src: Src, len: u8, thread: &mut Thread) -> Exec
     ensures { Executes (plan_alu Cmp n src len thread.old) thread.old thread.new result }
 {
@@ -45,7 +46,7 @@ fn exec_compare(n: u8, src: Src, len: u8, thread: &mut Thread) -> Exec
 }
 
 /// A jump that is taken where its condition holds.
-#[tactic(auto, unfolding(erim_defs::specs::Meaning::plan_jcc))]
+#[tactic(auto, unfolding(erim_defs::specs::Machine::Meaning::plan_jcc))]
 fn exec_jcc(c: u8, rel: i32, len: u8, thread: &mut Thread) -> Exec
     ensures { Executes (plan_jcc c rel len thread.old) thread.old thread.new result }
 {
@@ -58,20 +59,20 @@ fn exec_jcc(c: u8, rel: i32, len: u8, thread: &mut Thread) -> Exec
 }
 
 /// Writes EAX to PKRU. ECX and EDX have to be 0.
-#[tactic(auto, unfolding(erim_defs::specs::Meaning::plan_wrpkru))]
+#[tactic(auto, unfolding(erim_defs::specs::Machine::Meaning::plan_wrpkru))]
 fn exec_wrpkru(len: u8, thread: &mut Thread) -> Exec
     ensures { Executes (plan_wrpkru len thread.old) thread.old thread.new result }
 {
-    if low_half(register(thread, 1)) != 0 || low_half(register(thread, 2)) != 0 {
+    if low_half(register(thread, RCX)) != 0 || low_half(register(thread, RDX)) != 0 {
         return Exec::Refuse;
     }
-    thread.pkru = low_half(register(thread, 0));
+    thread.pkru = low_half(register(thread, RAX));
     onward(thread, len);
     Exec::Done
 }
 
 /// Executes an instruction of so many bytes on the thread.
-#[tactic(auto, unfolding(erim_defs::specs::Meaning::plan))]
+#[tactic(auto, unfolding(erim_defs::specs::Machine::Meaning::plan))]
 pub(crate) fn exec(insn: &Insn, len: u8, thread: &mut Thread) -> Exec
     ensures { Executes (plan insn.now len thread.old) thread.old thread.new result }
 {

@@ -1,20 +1,27 @@
 //! A process on the emulated machine, with the journal of its steps.
+//!
+//! `Process::start` checks an accepted image and loads it; `step_now` makes one step of a thread
+//! and writes it into the journal. A process' value is its setup and its journal: `state_of`
+//! replays them, and every view (`rights`, `word`, `thread`, `output`, `end`, `escape`) is told by
+//! that state. Steps meet `step`, the start `first_state` and `start_fault`, and the kept facts are
+//! `IsReplay` and what `isolation` proves of every run. `erim_cli`'s `run` calls it; `check_start`
+//! asks `image_code` for the first unsafe sequence of the code and of trusted text.
 #![tactic(auto)]
 
 mod calls;
 mod exec;
 mod fetch;
-mod going;
-mod loading;
+mod image_pages;
 mod machine;
+mod origin;
 mod process;
 mod registers;
 mod setup;
+mod start;
 mod start_fault;
-mod starting;
+mod step;
 mod stepped;
-mod stepping;
-mod writing;
+mod write_call;
 
 pub use process::Process;
 pub use setup::Setup;

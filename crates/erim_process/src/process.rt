@@ -1,22 +1,25 @@
 //! A machine with the journal of its steps.
 
-ghost use Rattle.std.specs.Prelude.{◌≡◌, ◌≢◌, ◌↔◌, IsTrue, ℕ, ◌+◌, ◌*◌, ◌/◌, ◌%◌, ◌^◌, true, IsSome, IsNone, slice_index, ◌<◌, ◌≤◌, ◌++◌, ◌∷◌, ◌⊎◌, [], Some, None, IfOk, IfErr, length, slice_index_or};
+ghost use Rattle.std.specs.Prelude.{◌≡◌, ◌≢◌, ◌↔◌, IsTrue, ℕ, ◌+◌, ◌*◌, ◌/◌, ◌%◌, ◌^◌, true};
+ghost use Rattle.std.specs.Prelude.{IsSome, IsNone, IfSome, slice_index, ◌<◌, ◌≤◌, ◌++◌, ◌∷◌, ◌⊎◌};
+ghost use Rattle.std.specs.Prelude.{[], Some, None, IfOk, IfErr, length, slice_index_or};
 ghost use Rattle.erim_defs.specs.declared.machine.Thread.{Thread};
-ghost use Rattle.erim_defs.specs.Isolation.{IsIsolated};
-ghost use Rattle.erim_defs.specs.Pages.{word};
-ghost use Rattle.erim_defs.specs.State.{any_live};
-ghost use Rattle.erim_defs.specs.Step.{step};
+ghost use Rattle.erim_defs.specs.Machine.Isolation.{IsIsolated};
+ghost use Rattle.erim_defs.specs.Output.Journal.{IsJournal};
+ghost use Rattle.erim_defs.specs.Machine.Pages.{IsSound, word};
+ghost use Rattle.erim_defs.specs.Machine.State.{any_live};
+ghost use Rattle.erim_defs.specs.Machine.Step.{step};
 ghost use Rattle.page_store.specs.Answers.{HasBytes};
-ghost use Rattle.erim_process.specs.Ended.{IfRefused};
-ghost use Rattle.erim_process.specs.Recorded.{Recorded, state_of, IsRun};
-ghost use Rattle.erim_process.specs.Replayed.{setup_of};
-ghost use Rattle.erim_process.specs.Starting.{start_fault};
-ghost use Rattle.erim_process.specs.Stepping.{answer};
+ghost use Rattle.erim_process.specs.Ends.{IfRefused};
+ghost use Rattle.erim_process.specs.ProcessValue.{ProcessValue, state_of, IsRun};
+ghost use Rattle.erim_process.specs.ProcessInvariant.{setup_of};
+ghost use Rattle.erim_process.specs.StartFaults.{start_fault};
+ghost use Rattle.erim_process.specs.StepFacts.{answer};
 
 use crate::machine::Machine;
 use crate::setup::Setup;
+use crate::start::{check_start, load_machine};
 use crate::start_fault::StartFault;
-use crate::starting::{check_start, load_machine};
 use crate::stepped::Stepped;
 use erim_defs::{End, Entry, Escape, Rights, Thread};
 use isolation::{always_kept, startable};
@@ -33,22 +36,25 @@ pub struct Process {
 }
 
 impl Model for Process {
-    ghost use Rattle.erim_process.specs.Recorded.{Recorded};
+    ghost use Rattle.erim_process.specs.ProcessValue.{ProcessValue};
 
-    ghost Value = { Recorded };
+    ghost Value = { ProcessValue };
 
-    ghost use Rattle.erim_process.specs.Replayed.{recorded, IsReplay};
+    ghost use Rattle.erim_process.specs.ProcessInvariant.{process_value, IsReplay};
 
-    ghost view = { λ p. recorded p };
+    ghost view = { λ p. process_value p };
 
     ghost invariant = { λ p. IsReplay ⟦<PageList as Memory>⟧ p };
 }
 
 impl Process {
-    /// A process at its start. It takes all its memory here, room for the journal's entries among it.
+    /// A process at its start. It takes all its memory here, room for the journal's entries among
+    /// it.
     pub fn start(alloc: Global, setup: Setup) -> Result<Process, StartFault>
-        ensures started { IfOk result (λ process. (start_fault (setup_of setup) ≡ None) × (process ≡ record { setup = setup_of setup; journal = [] })) }
-        ensures refused { IfErr result (λ fault. (fault ≡ StartFault.Memory) ⊎ (start_fault (setup_of setup) ≡ Some fault)) }
+        ensures started { IfOk result (λ process. (start_fault (setup_of setup) ≡ None)
+            × (process ≡ record { setup = setup_of setup; journal = [] })) }
+        ensures refused { IfErr result (λ fault. (fault ≡ StartFault.Memory)
+            ⊎ (start_fault (setup_of setup) ≡ Some fault)) }
     {
         check_start(alloc, &setup)?;
         startable();
@@ -69,10 +75,14 @@ impl Process {
         self.machine.steps
     }
 
-    /// The rights of a page.
+    /// The rights of a page. Keys are below 16, protection bits below 8, and mapped pages below
+    /// 2^35.
     pub fn rights(&self, page: u64) -> Option<Rights>
-        ensures { result ≡ (state_of self.now).rights page }
+        ensures value { result ≡ (state_of self.now).rights page }
+        ensures sound { IfSome result IsSound }
+        ensures low { IsSome result → page < 2 ^ 35 }
     {
+        always_kept();
         self.machine.pages.rights(page)
     }
 
@@ -80,13 +90,18 @@ impl Process {
     pub fn journal(&self) -> &[Entry]
         ensures entries { result.now ≡ self.now.journal }
         ensures run { IsRun self.now }
-        ensures few { length result.now ≤ 4194304 }
+        ensures form { IsJournal (record {
+          budget = self.now.setup.budget;
+          frames = self.now.setup.frames;
+          entries = result.now;
+        }) }
         ensures counted { length result.now ≤ (state_of self.now).steps }
     {
         self.journal.as_slice()
     }
 
-    /// How the process ended, if it has. If it hasn't, it has a live thread. A page that was refused is below 2^35.
+    /// How the process ended, if it has. If it hasn't, it has a live thread. A page that was
+    /// refused is below 2^35.
     pub fn end(&self) -> Option<End>
         ensures value { result ≡ (state_of self.now).end }
         ensures live { IsNone result → any_live (state_of self.now).threads ≡ true }
@@ -109,11 +124,14 @@ impl Process {
         self.machine.output.as_slice()
     }
 
-    /// What the process was started with. Every state of each run from it keeps the isolation invariant.
+    /// What the process was started with. Every state of each run from it keeps the isolation
+    /// invariant.
     pub fn setup(&self) -> &Setup
         ensures value { setup_of result.now ≡ self.now.setup }
         ensures same { (state_of self.now).setup ≡ self.now.setup }
+        ensures some_budget { 1 ≤ self.now.setup.budget }
         ensures budget { self.now.setup.budget ≤ 4194304 }
+        ensures some_frames { 64 ≤ self.now.setup.frames }
         ensures frames { self.now.setup.frames ≤ 4096 }
         ensures isolated { IsIsolated self.now.setup }
     {
@@ -146,12 +164,19 @@ impl Process {
         self.machine.threads[thread as usize]
     }
 
-    /// Copies a page: no rights and zeros where it isn't mapped.
+    /// Copies a page: no rights and zeros where it isn't mapped. Rights are as `rights` says.
     pub fn copy_page(&self, page: u64, into: &mut PageCopy)
         ensures page { into.new.page ≡ page }
         ensures rights { into.new.rights ≡ (state_of self.now).rights page }
-        ensures bytes { (i : ℕ) → i < 4096 → slice_index into.new.bytes i ≡ (state_of self.now).bytes (4096 * page + i) }
+        ensures sound { IfSome into.new.rights IsSound }
+        ensures low { IsSome into.new.rights → page < 2 ^ 35 }
+        ensures long { length into.new.bytes ≡ 4096 }
+        ensures zeros { into.new.rights ≡ None → (i : ℕ) → i < 4096
+            → slice_index into.new.bytes i ≡ 0 }
+        ensures bytes { (i : ℕ) → i < 4096
+            → slice_index into.new.bytes i ≡ (state_of self.now).bytes (4096 * page + i) }
     {
+        always_kept();
         self.machine.pages.copy_page(page, into);
     }
 
@@ -165,13 +190,21 @@ impl Process {
         self.machine.pages.word(addr)
     }
 
-    /// Makes one step of a thread, where it is defined, and adds its entry to the journal. `worker` is the worker
-    /// that makes it. Takes no memory.
+    /// Makes one step of a thread, where it is defined, and adds its entry to the journal. `worker`
+    /// is the number of the worker that makes it, 0 to 8. Takes no memory.
     pub fn step_now(&mut self, worker: u16, thread: u8) -> Stepped
+        requires { worker ≤ 8 }
         ensures answer { result ≡ answer (state_of self.old) thread }
-        ensures journal { result ≡ Stepped.Made → self.new ≡ record { setup = self.old.setup; journal = self.old.journal ++ record { worker = worker; thread = thread; count = 1 } ∷ [] } }
-        ensures state { result ≡ Stepped.Made → step thread (state_of self.old) ≡ Some (state_of self.new) }
-        ensures counted { result ≡ Stepped.Made → (state_of self.new).steps ≡ (state_of self.old).steps + 1 }
+        ensures journal { result ≡ Stepped.Made
+            → self.new ≡ record {
+              setup = self.old.setup;
+              journal = self.old.journal
+                  ++ record { worker = worker; thread = thread; count = 1 } ∷ [];
+            } }
+        ensures state { result ≡ Stepped.Made
+            → step thread (state_of self.old) ≡ Some (state_of self.new) }
+        ensures counted { result ≡ Stepped.Made
+            → (state_of self.new).steps ≡ (state_of self.old).steps + 1 }
         ensures other { result ≢ Stepped.Made → self.new ≡ self.old }
         ensures setup { self.new.setup ≡ self.old.setup }
         ensures run { IsRun self.new }

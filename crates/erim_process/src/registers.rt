@@ -1,20 +1,21 @@
 //! Registers, sources and RIP.
 
 ghost use Rattle.std.specs.Prelude.{◌≡◌};
-ghost use Rattle.erim_defs.specs.Meaning.{reg, with_reg, low_half, onward, jumped, source};
+ghost use Rattle.erim_defs.specs.Machine.Meaning.{register, with_register, low_half, onward, jump};
+ghost use Rattle.erim_defs.specs.Machine.Meaning.{source};
 
 use erim_defs::{Place, Src, Thread};
 
 /// A register, or 0 past the last.
 pub(crate) fn register(thread: &Thread, n: u8) -> u64
-    ensures { result ≡ reg thread.now n }
+    ensures { result ≡ register thread.now n }
 {
     thread.regs.get(n as usize).copied().unwrap_or(0)
 }
 
 /// Writes a register. Past the last nothing is written.
 pub(crate) fn set_register(thread: &mut Thread, n: u8, value: u64)
-    ensures { thread.new ≡ with_reg thread.old n value }
+    ensures { thread.new ≡ with_register thread.old n value }
 {
     if (n as usize) < thread.regs.len() {
         thread.regs[n as usize] = value;
@@ -37,7 +38,7 @@ pub(crate) fn onward(thread: &mut Thread, len: u8)
 
 /// Jumps so far from behind an instruction of so many bytes.
 pub(crate) fn jump(thread: &mut Thread, len: u8, rel: i32)
-    ensures { thread.new ≡ jumped len rel thread.old }
+    ensures { thread.new ≡ jump len rel thread.old }
 {
     thread.rip = thread
         .rip

@@ -4,7 +4,8 @@ ghost use Rattle.std.specs.Prelude.{◌<◌, ◌≤◌};
 
 use elf_image::Image;
 
-/// What a process is started with: its image, how many steps it may make, and how many pages may be mapped.
+/// What a process is started with: its image, how many steps it may make, and how many pages may be
+/// mapped.
 #[derive(Drop)]
 pub struct Setup {
     pub image: Image,
@@ -12,6 +13,8 @@ pub struct Setup {
     pub budget: u32,
     /// From 64 to 4,096.
     pub frames: u32,
+    ghost some_steps: { 1 ≤ budget },
     ghost steps: { budget ≤ 4194304 },
+    ghost some_pages: { 64 ≤ frames },
     ghost pages: { frames ≤ 4096 },
 }

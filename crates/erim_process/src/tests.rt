@@ -47,8 +47,8 @@ struct Page<'a> {
     bytes: &'a [u8],
 }
 
-/// A part that is a page at an address.
-fn part(alloc: Global, vaddr: u64, page: &Page) -> Result<Part, AllocError>
+/// A part of so many pages at an address: the given one, and pages without bytes.
+fn part(alloc: Global, vaddr: u64, page: &Page, pages: u64) -> Result<Part, AllocError>
     ensures { IfOk result (λ part. length part.bytes.items ≡ 4096) }
 {
     let mut bytes = Vec::new(alloc);
@@ -59,22 +59,23 @@ fn part(alloc: Global, vaddr: u64, page: &Page) -> Result<Part, AllocError>
         vaddr,
         flags: page.flags,
         bytes,
-        memsz: 4096,
+        memsz: pages.saturating_mul(4096),
     })
 }
 
-/// The image of the pages at 0x401000, 0x402000 and 0x404000. With an entry, the second is trusted text and the third
-/// trusted data.
+/// The image of the pages at 0x401000, 0x402000 and, so many of them, 0x404000. With an entry, the
+/// second is trusted text and the third trusted data.
 fn image(
     alloc: Global,
     start: u64,
     pages: &[Page; 3],
+    data_pages: u64,
     entry: Option<u64>,
 ) -> Result<Vec<u8>, NoMemory> {
     let parts = [
-        part(alloc, 0x401000, &pages[0])?,
-        part(alloc, 0x402000, &pages[1])?,
-        part(alloc, 0x404000, &pages[2])?,
+        part(alloc, 0x401000, &pages[0], 1)?,
+        part(alloc, 0x402000, &pages[1], 1)?,
+        part(alloc, 0x404000, &pages[2], data_pages)?,
     ];
     let Some(entry) = entry else {
         return lay_image(alloc, &parts, &[], &[], start);
@@ -88,12 +89,12 @@ fn image(
     lay_image(alloc, &parts, &marks, &[], start)
 }
 
-/// A setup of the bytes, which are an image.
-fn setup(rt: &impl Abort, alloc: Global, bytes: &[u8], budget: u16, frames: u8) -> Setup {
+/// A setup of the bytes, which are an image, with 64 frames.
+fn setup(rt: &impl Abort, alloc: Global, bytes: &[u8], budget: u16) -> Setup {
     Setup {
         image: read_image(alloc, bytes).expect(rt, "an image"),
-        budget: u32::from(budget),
-        frames: u32::from(frames),
+        budget: u32::from(budget).max(1),
+        frames: 64,
     }
 }
 
@@ -116,7 +117,7 @@ fn leaving(alloc: Global) -> Result<Vec<u8>, NoMemory> {
             bytes: &[],
         },
     ];
-    image(alloc, 0x401000, &pages, None)
+    image(alloc, 0x401000, &pages, 1, None)
 }
 
 #[test]
@@ -132,7 +133,7 @@ fn budgets(rt: HostRuntime) -> Result<(), Fail> {
     ];
     let bytes = leaving(rt.alloc())?;
     for (what, budget, answer, end) in rows {
-        let given = setup(&rt, rt.alloc(), bytes.as_slice(), budget, 64);
+        let given = setup(&rt, rt.alloc(), bytes.as_slice(), budget);
         let mut process = Process::start(rt.alloc(), given).expect(&rt, what);
         for _ in 0..budget {
             assert_eq!(rt; process.step_now(0, 1), Stepped::NotLive, "{what}");
@@ -165,8 +166,8 @@ fn through_the_gate(rt: HostRuntime) -> Result<(), Fail> {
             bytes: b"ABCDEFGH",
         },
     ];
-    let bytes = image(rt.alloc(), 0x401FFE, &pages, Some(0x40200C))?;
-    let given = setup(&rt, rt.alloc(), bytes.as_slice(), 100, 64);
+    let bytes = image(rt.alloc(), 0x401FFE, &pages, 1, Some(0x40200C))?;
+    let given = setup(&rt, rt.alloc(), bytes.as_slice(), 100);
     let mut process = Process::start(rt.alloc(), given).expect(&rt, "a start");
     for _ in 0..14 {
         assert_eq!(rt; process.step_now(0, 0), Stepped::Made);
@@ -187,29 +188,29 @@ fn refusals(rt: HostRuntime) -> Result<(), Fail> {
         kind: SeqKind::Wrpkru,
     };
     let hidden = [0xB8, 0x0F, 0x01, 0xEF, 0x00];
-    let rows: [(&str, u32, &[u8], Option<u64>, u8, StartFault); 4] = [
+    let rows: [(&str, u32, &[u8], Option<u64>, u64, StartFault); 4] = [
         (
             "an entry one byte early",
             RX,
             &LEAVING,
             Some(0x40200B),
-            64,
+            1,
             StartFault::TrustedUnsafe { found },
         ),
         (
-            "three pages and a stack in 18 frames",
+            "49 pages and a stack in 64 frames",
             RX,
             &LEAVING,
             Some(0x40200C),
-            18,
-            StartFault::TooFewFrames { needed: 19 },
+            47,
+            StartFault::TooFewFrames { needed: 65 },
         ),
         (
             "a hidden sequence",
             RX,
             &hidden,
             Some(0x40200C),
-            64,
+            1,
             StartFault::NotYet,
         ),
         (
@@ -217,11 +218,11 @@ fn refusals(rt: HostRuntime) -> Result<(), Fail> {
             RWX,
             &LEAVING,
             Some(0x40200C),
-            64,
+            1,
             StartFault::NotYet,
         ),
     ];
-    for (what, flags, code, entry, frames, fault) in rows {
+    for (what, flags, code, entry, data_pages, fault) in rows {
         let pages = [
             Page {
                 flags,
@@ -239,8 +240,8 @@ fn refusals(rt: HostRuntime) -> Result<(), Fail> {
                 bytes: &[],
             },
         ];
-        let bytes = image(rt.alloc(), 0x401000, &pages, entry)?;
-        let given = setup(&rt, rt.alloc(), bytes.as_slice(), 100, frames);
+        let bytes = image(rt.alloc(), 0x401000, &pages, data_pages, entry)?;
+        let given = setup(&rt, rt.alloc(), bytes.as_slice(), 100);
         assert_eq!(rt;
             Process::start(rt.alloc(), given).err(),
             Some(fault),

@@ -1,7 +1,7 @@
 -- What the definition of made images sees of parts and marks.
 use Rattle.std.specs.Prelude.{ℕ, List, [], ◌∷◌, ◌++◌, map, length, sum_by}
-use Rattle.erim_defs.specs.LayImage as Lay
-use Rattle.erim_defs.specs.LayImage.{words, xwords}
+use Rattle.erim_defs.specs.Output.LayImage as Lay
+use Rattle.erim_defs.specs.Output.LayImage.{words, xwords}
 use Rattle.image_gen.specs.declared.part.Part.{Part}
 use Rattle.image_gen.specs.declared.part.Mark.{Mark}
 use Rattle.image_gen.specs.declared.header.Header.{Header}
@@ -24,4 +24,5 @@ total_bytes parts = sum_by (λ p. length p.bytes.items) parts
 
 -- the bytes of a program header
 abbrev pub header_bytes : Header → List ℕ
-header_bytes h = words (h.kind ∷ h.flags ∷ []) ++ xwords (h.place ∷ h.vaddr ∷ h.vaddr ∷ h.filesz ∷ h.memsz ∷ h.align ∷ [])
+header_bytes h = words (h.kind ∷ h.flags ∷ [])
+    ++ xwords (h.place ∷ h.vaddr ∷ h.vaddr ∷ h.filesz ∷ h.memsz ∷ h.align ∷ [])

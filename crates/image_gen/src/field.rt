@@ -1,7 +1,8 @@
 //! Appends fields, low byte first, and zeros.
 
 ghost use Rattle.std.specs.Prelude.{◌≡◌, ◌^◌, ◌<◌, ◌++◌, OnOk};
-ghost use Rattle.erim_defs.specs.LayImage.{halves, words, xwords, multiple_from, filled};
+ghost use Rattle.erim_defs.specs.Output.LayImage.{halves, words, xwords, multiple_from};
+ghost use Rattle.erim_defs.specs.Output.LayImage.{with_padding};
 
 use std::alloc::AllocError;
 
@@ -47,7 +48,7 @@ pub fn multiple_from(size: u64, n: u64) -> u64
 
 /// Appends zeros up to a place, if it is past the end, and then a piece.
 pub fn push_at(bytes: &mut Vec<u8>, place: u64, piece: &[u8]) -> Result<(), AllocError>
-    ensures { OnOk result (bytes.new.items ≡ filled place bytes.old.items ++ piece.now) }
+    ensures { OnOk result (bytes.new.items ≡ with_padding place bytes.old.items ++ piece.now) }
 {
     let end = bytes.len().max(place as usize);
     bytes.resize(end, 0)?;

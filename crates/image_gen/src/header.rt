@@ -2,11 +2,17 @@
 
 ghost use Rattle.std.specs.Prelude.{◌≡◌, ◌==◌, ◌^◌, ◌<◌, ◌≤◌, ◌++◌, length, OnOk, if◌then◌else◌};
 ghost use Rattle.std.specs.List.{flat_map};
-ghost use Rattle.erim_defs.specs.LayImage.{file_header, multiple_from, pieces, program_header};
+ghost use Rattle.erim_defs.specs.Output.LayImage.{file_header, multiple_from, pieces};
+ghost use Rattle.erim_defs.specs.Output.LayImage.{program_header};
 ghost use Rattle.image_gen.specs.Parts.{header_bytes, part_values, total_bytes};
 
 use crate::field::{multiple_from, push_halves, push_words, push_xwords};
 use crate::part::Part;
+use erim_defs::elf::{
+    ELFCLASS64, ELFDATA2LSB, EM_X86_64, ET_EXEC, EV_CURRENT, FILE_HEADER_SIZE, NOTE_ALIGNMENT,
+    PF_R, PROGRAM_HEADER_SIZE, PT_LOAD, PT_NOTE,
+};
+use erim_defs::page::PAGE_SIZE;
 use std::alloc::AllocError;
 
 /// What a program header tells. Its p_paddr is its p_vaddr.
@@ -25,12 +31,30 @@ struct Header {
 pub fn push_file_header(bytes: &mut Vec<u8>, count: u16, entry: u64) -> Result<(), AllocError>
     ensures { OnOk result (bytes.new.items ≡ bytes.old.items ++ file_header count entry) }
 {
-    bytes.extend_from_slice(&[0x7F, b'E', b'L', b'F', 2, 1, 1, 0, 0, 0, 0, 0, 0, 0, 0, 0])?;
-    push_halves(bytes, &[2, 62])?;
-    push_words(bytes, &[1])?;
-    push_xwords(bytes, &[entry, 64, 0])?;
+    bytes.extend_from_slice(&[
+        0x7F,
+        b'E',
+        b'L',
+        b'F',
+        ELFCLASS64,
+        ELFDATA2LSB,
+        EV_CURRENT,
+        0,
+        0,
+        0,
+        0,
+        0,
+        0,
+        0,
+        0,
+        0,
+    ])?;
+    push_halves(bytes, &[ET_EXEC, EM_X86_64])?;
+    push_words(bytes, &[EV_CURRENT as u32])?;
+    push_xwords(bytes, &[entry, FILE_HEADER_SIZE as u64, 0])?;
     push_words(bytes, &[0])?;
-    push_halves(bytes, &[64, 56, count, 0, 0, 0])
+    let size = FILE_HEADER_SIZE as u16;
+    push_halves(bytes, &[size, PROGRAM_HEADER_SIZE as u16, count, 0, 0, 0])
 }
 
 /// Appends a program header, of 56 bytes.
@@ -59,11 +83,12 @@ pub fn part_place(end: u64, length: u64) -> u64
     if length == 0 {
         0
     } else {
-        multiple_from(4096, end)
+        multiple_from(PAGE_SIZE, end)
     }
 }
 
-/// Appends the program headers of the parts, whose bytes stand behind `start`, and of the notes where there are any.
+/// Appends the program headers of the parts, whose bytes stand behind `start`, and of the notes
+/// where there are any.
 pub fn push_headers(
     bytes: &mut Vec<u8>,
     start: u64,
@@ -73,20 +98,22 @@ pub fn push_headers(
     requires start { start ≤ 4096 }
     requires few { length parts.now ≤ 63 }
     requires small { total_bytes parts.now ≤ 16777216 }
-    ensures { OnOk result (bytes.new.items ≡ bytes.old.items ++ flat_map program_header (pieces start (part_values parts.now) notes.now)) }
+    ensures { OnOk result (bytes.new.items
+        ≡ bytes.old.items ++ flat_map program_header
+        (pieces start (part_values parts.now) notes.now)) }
 {
     let mut end = start;
     for part in parts {
         let filesz = part.bytes.len() as u64;
         let place = part_place(end, filesz);
         let header = Header {
-            kind: 1,
+            kind: PT_LOAD,
             flags: part.flags,
             place,
             vaddr: part.vaddr,
             filesz,
             memsz: part.memsz,
-            align: 4096,
+            align: PAGE_SIZE,
         };
         push_header(bytes, &header)?;
         end = end.max(place + filesz);
@@ -96,13 +123,13 @@ pub fn push_headers(
     }
     let filesz = notes.len() as u64;
     let header = Header {
-        kind: 4,
-        flags: 4,
-        place: multiple_from(4, end),
+        kind: PT_NOTE,
+        flags: PF_R,
+        place: multiple_from(NOTE_ALIGNMENT, end),
         vaddr: 0,
         filesz,
         memsz: filesz,
-        align: 4,
+        align: NOTE_ALIGNMENT,
     };
     push_header(bytes, &header)
 }

@@ -1,19 +1,20 @@
--- What the machine's proofs use of decoding, over lists whose elements are known to be of some kind, and how the laws
--- of the grammar give it over bytes.
-use Rattle.std.proofs.Common.{◌≡◌, ◌<◌, ◌≤◌, ◌+◌, ℕ, List, [], ◌∷◌, ◌++◌, length, take, drop, refl, sym, ap, subst, ◌∙◌, arith, append_assoc}
+-- What the machine's proofs use of decoding, over lists whose elements are known to be of some
+-- kind, and how the laws of the grammar give it over bytes.
+use Rattle.std.proofs.Common.{◌≡◌, ◌<◌, ◌≤◌, ◌+◌, ℕ, List, [], ◌∷◌, ◌++◌, length, take, drop, refl}
+use Rattle.std.proofs.Common.{sym, ap, subst, ◌∙◌, arith, append_assoc}
 use Rattle.std.proofs.lemmas.List.{take-append-drop, length-take-le, append-nil, length-append}
 use Rattle.erim_defs.specs.declared.found.SeqKind.{SeqKind}
 use Rattle.erim_defs.specs.declared.insn.Insn.{Insn}
 use Rattle.erim_defs.specs.declared.insn.Insn.TheVariants.{Wrpkru}
 use Rattle.erim_defs.specs.declared.insn.Decoded.{Decoded}
 use Rattle.erim_defs.specs.declared.insn.Decoded.TheVariants as answers
-use Rattle.erim_defs.specs.Parts.{AreBytes}
-use Rattle.erim_defs.specs.Grammar.{Spells}
-use Rattle.erim_defs.specs.Decodes.{Decodes, OneSpelling}
-use Rattle.erim_defs.specs.Decoded.{decoded}
-use Rattle.erim_defs.specs.Isolation.{Place}
-use Rattle.isolation.specs.Checks.{place_insn, place_text}
+use Rattle.erim_defs.specs.Encoding.Parts.{AreBytes}
+use Rattle.erim_defs.specs.Encoding.Grammar.{Encodes}
+use Rattle.erim_defs.specs.Encoding.Decodes.{Decodes, PrefixFree}
+use Rattle.erim_defs.specs.Encoding.Decoding.{decode}
 use Rattle.isolation.specs.GrammarLaws.{GrammarLaws}
+use Rattle.erim_defs.specs.Inspection.Trust.{TrustValue}
+use Rattle.erim_defs.specs.Inspection.Check.{Position, check_insn, check_bytes}
 
 -- each element is of the kind
 abbrev pub AllOf : (ℕ → Type 0) → List ℕ → Type 0
@@ -26,8 +27,10 @@ all_behind N (x ∷ xs) ys h = all_behind N xs ys h.1
 
 -- a text that spells an instruction is read, whatever follows, and what it begins with is short
 pub record Reads (N : ℕ → Type 0) (text : List ℕ) (insn : Insn) : Type 0 where
-  pub whole : (rest : List ℕ) → AllOf N rest → decoded (text ++ rest) ≡ answers.Insn insn (length text) 0
-  pub part : (front back : List ℕ) → text ≡ front ++ back → 0 < length back → decoded front ≡ answers.Short
+  pub whole : (rest : List ℕ) → AllOf N rest
+      → decode (text ++ rest) ≡ answers.Insn insn (length text) 0
+  pub part : (front back : List ℕ) → text ≡ front ++ back → 0 < length back
+      → decode front ≡ answers.Short
 
 -- the bytes of a WRPKRU end with its occurrence, behind skip bytes
 pub record HoldsWrpkru (bytes : List ℕ) (len skip : ℕ) : Type 0 where
@@ -39,8 +42,10 @@ pub record HoldsWrpkru (bytes : List ℕ) (len skip : ℕ) : Type 0 where
 
 pub record Decoder (N : ℕ → Type 0) : Type 0 where
   pub bytes : (x : ℕ) → x < 256 → N x
-  pub reads : (kind : SeqKind) (place : Place) → Reads N (place_text kind place) (place_insn kind place)
-  pub wrpkru : (bytes : List ℕ) (len skip : ℕ) → AllOf N bytes → decoded bytes ≡ answers.Insn Wrpkru len skip → HoldsWrpkru bytes len skip
+  pub reads : (trust : TrustValue) (kind : SeqKind) (next : ℕ) (position : Position)
+      → Reads N (check_bytes trust kind next position) (check_insn trust kind next position)
+  pub wrpkru : (bytes : List ℕ) (len skip : ℕ) → AllOf N bytes
+      → decode bytes ≡ answers.Insn Wrpkru len skip → HoldsWrpkru bytes len skip
 
 -- ---- over bytes, by the laws
 
@@ -60,48 +65,70 @@ bytes_front [] ys h = tt
 bytes_front (x ∷ xs) ys h = (h.0, bytes_front xs ys h.1)
 
 -- what is spelled is read
-again : OneSpelling → (bytes text rest : List ℕ) (insn : Insn) (skip : ℕ) (r : Decoded) → Spells text insn skip → bytes ≡ text ++ rest → Decodes bytes r → r ≡ answers.Insn insn (length text) skip
-again one bytes text rest insn skip answers.Undefined s e d = absurd (d text insn skip [] rest s (append-nil bytes ∙ e))
+again : PrefixFree → (bytes text rest : List ℕ) (insn : Insn) (skip : ℕ) (r : Decoded)
+    → Encodes text insn skip → bytes ≡ text ++ rest → Decodes bytes r
+    → r ≡ answers.Insn insn (length text) skip
+again one bytes text rest insn skip answers.Undefined s e d =
+    absurd (d text insn skip [] rest s (append-nil bytes ∙ e))
 again one bytes text rest insn skip answers.Short s e d =
-    let parts : text ++ (rest ++ d.tail) ≡ (bytes ++ d.tail) ++ [] = sym (append_assoc text rest d.tail) ∙ ap (λ (x : List ℕ). x ++ d.tail) (sym e) ∙ sym (append-nil (bytes ++ d.tail)) in
-    let same : text ≡ bytes ++ d.tail = (one text (bytes ++ d.tail) insn d.insn skip d.skip (rest ++ d.tail) [] s d.spells parts).0 in
-    let a : length text ≡ length bytes + length d.tail = ap length same ∙ length-append bytes d.tail in
+    let parts : text ++ (rest ++ d.tail) ≡ (bytes ++ d.tail) ++ [] =
+    sym (append_assoc text rest d.tail) ∙ ap (λ (x : List ℕ). x ++ d.tail) (sym e)
+    ∙ sym (append-nil (bytes ++ d.tail)) in
+    let same : text ≡ bytes ++ d.tail =
+    (one text (bytes ++ d.tail) insn d.insn skip d.skip (rest
+    ++ d.tail) [] s d.encodes parts).0 in
+    let a : length text ≡ length bytes + length d.tail =
+    ap length same ∙ length-append bytes d.tail in
     let b : length bytes ≡ length text + length rest = ap length e ∙ length-append text rest in
     let more = d.more in
     absurd (omega (arith, a, b, more))
 again one bytes text rest insn skip (answers.Insn i n k) s e d =
-    let w = one (take n bytes) text i insn k skip (drop n bytes) rest d.1 s (take-append-drop n bytes ∙ e) in
+    let w = one (take n bytes) text i insn k skip (drop n bytes) rest d.1 s
+    (take-append-drop n bytes ∙ e) in
     let long : n ≡ length text = sym (length-take-le n bytes d.0) ∙ ap length w.0 in
     rw (w.1, long, w.2) refl
 
 -- what a spelled text begins with is short
-part_short : OneSpelling → (text front back : List ℕ) (insn : Insn) (skip : ℕ) (r : Decoded) → Spells text insn skip → text ≡ front ++ back → 0 < length back → Decodes front r → r ≡ answers.Short
+part_short : PrefixFree → (text front back : List ℕ) (insn : Insn) (skip : ℕ) (r : Decoded)
+    → Encodes text insn skip → text ≡ front ++ back → 0 < length back → Decodes front r
+    → r ≡ answers.Short
 part_short one text front back insn skip answers.Short s e l d = refl
-part_short one text front back insn skip answers.Undefined s e l d = absurd (d text insn skip back [] s (sym e ∙ sym (append-nil text)))
+part_short one text front back insn skip answers.Undefined s e l d =
+    absurd (d text insn skip back [] s (sym e ∙ sym (append-nil text)))
 part_short one text front back insn skip (answers.Insn i n k) s e l d =
-    let cut : take n front ++ (drop n front ++ back) ≡ text ++ [] = sym (append_assoc (take n front) (drop n front) back) ∙ ap (λ (x : List ℕ). x ++ back) (take-append-drop n front) ∙ sym e ∙ sym (append-nil text) in
-    let same : take n front ≡ text = (one (take n front) text i insn k skip (drop n front ++ back) [] d.1 s cut).0 in
+    let cut : take n front ++ (drop n front ++ back) ≡ text ++ [] =
+    sym (append_assoc (take n front) (drop n front) back)
+    ∙ ap (λ (x : List ℕ). x ++ back) (take-append-drop n front) ∙ sym e
+    ∙ sym (append-nil text) in
+    let same : take n front ≡ text =
+    (one (take n front) text i insn k skip (drop n front ++ back) [] d.1 s cut).0 in
     let a : length (take n front) ≡ n = length-take-le n front d.0 in
     let b : length (take n front) ≡ length text = ap length same in
     let c : length text ≡ length front + length back = ap length e ∙ length-append front back in
     let m : n ≤ length front = d.0 in
     absurd (omega (arith, a, b, c, m, l))
 
-reads_by : GrammarLaws → (text : List ℕ) (insn : Insn) → Spells text insn 0 → Reads IsByte text insn
+reads_by : GrammarLaws → (text : List ℕ) (insn : Insn) → Encodes text insn 0
+    → Reads IsByte text insn
 reads_by g text insn s = record {
-  whole = λ rest all. again g.one (text ++ rest) text rest insn 0 (decoded (text ++ rest)) s refl (g.decodes (text ++ rest) (bytes_append text rest s.written.fits (are_bytes rest all)));
-  part = λ front back e l. part_short g.one text front back insn 0 (decoded front) s e l (g.decodes front (bytes_front front back (subst AreBytes e s.written.fits)));
+  whole = λ rest all. again g.one (text ++ rest) text rest insn 0 (decode (text ++ rest)) s refl
+      (g.decodes (text ++ rest) (bytes_append text rest s.format.fits (are_bytes rest all)));
+  part = λ front back e l. part_short g.one text front back insn 0 (decode front) s e l
+      (g.decodes front (bytes_front front back (subst AreBytes e s.format.fits)));
 }
 
-holds_by : GrammarLaws → (bytes : List ℕ) (len skip : ℕ) → (len ≤ length bytes) × Spells (take len bytes) Wrpkru skip → HoldsWrpkru bytes len skip
+holds_by : GrammarLaws → (bytes : List ℕ) (len skip : ℕ)
+    → (len ≤ length bytes) × Encodes (take len bytes) Wrpkru skip → HoldsWrpkru bytes len skip
 holds_by g bytes len skip d =
     let w = g.wrpkru (take len bytes) skip d.1 in
-    let long : len ≡ length w.front + 3 = sym (length-take-le len bytes d.0) ∙ ap length w.parts ∙ length-append w.front (0x0F ∷ 0x01 ∷ 0xEF ∷ []) in
+    let long : len ≡ length w.front + 3 = sym (length-take-le len bytes d.0) ∙ ap length w.parts
+    ∙ length-append w.front (0x0F ∷ 0x01 ∷ 0xEF ∷ []) in
     let skipped = w.skipped in
     record {
       front = w.front;
       back = drop len bytes;
-      parts = sym (take-append-drop len bytes) ∙ ap (λ (x : List ℕ). x ++ drop len bytes) w.parts ∙ append_assoc w.front (0x0F ∷ 0x01 ∷ 0xEF ∷ []) (drop len bytes);
+      parts = sym (take-append-drop len bytes) ∙ ap (λ (x : List ℕ). x ++ drop len bytes) w.parts
+          ∙ append_assoc w.front (0x0F ∷ 0x01 ∷ 0xEF ∷ []) (drop len bytes);
       skipped = w.skipped;
       long = omega (arith, long, skipped);
     }
@@ -110,6 +137,9 @@ holds_by g bytes len skip d =
 pub decoder_of_bytes : GrammarLaws → Decoder IsByte
 decoder_of_bytes g = record {
   bytes = λ x h. h;
-  reads = λ kind place. reads_by g (place_text kind place) (place_insn kind place) (g.check kind place);
-  wrpkru = λ bytes len skip all e. holds_by g bytes len skip (let P : Decoded → Type 0 = Decodes bytes in subst P e (g.decodes bytes (are_bytes bytes all)));
+  reads = λ trust kind next position. reads_by g (check_bytes trust kind next position)
+      (check_insn trust kind next position)
+      (g.check trust kind next position);
+  wrpkru = λ bytes len skip all e. holds_by g bytes len skip (let P : Decoded
+      → Type 0 = Decodes bytes in subst P e (g.decodes bytes (are_bytes bytes all)));
 }

@@ -1,33 +1,44 @@
--- The facts of the grammar that the isolation invariant asks for. This file alone depends on the table of instructions.
+-- The facts of the grammar that the isolation invariant asks for. This file alone depends on the
+-- table of instructions.
 use Rattle.std.proofs.Common.{ℕ, List, [], ◌∷◌}
 use Rattle.erim_defs.specs.declared.found.SeqKind.{SeqKind}
 use Rattle.erim_defs.specs.declared.found.SeqKind.TheVariants.{Wrpkru}
 use Rattle.erim_defs.specs.declared.insn.Insn.TheVariants as insns
-use Rattle.erim_defs.specs.Parts.{AreBytes}
-use Rattle.erim_defs.specs.Grammar.{Spells}
-use Rattle.erim_defs.specs.State.{Setup}
-use Rattle.erim_defs.specs.Isolation.{IsStartable, Place, Compare, Branch, Number, Leave}
-use Rattle.isolation.specs.Checks.{place_insn, place_text}
+use Rattle.erim_defs.specs.Encoding.Parts.{AreBytes}
+use Rattle.erim_defs.specs.Encoding.Grammar.{Encodes}
+use Rattle.erim_defs.specs.Machine.State.{Setup}
+use Rattle.erim_defs.specs.Machine.Isolation.{IsStartable}
 use Rattle.isolation.specs.GrammarLaws.{EndsInWrpkru, GrammarLaws}
 use Rattle.isolation.proofs.DecoderFacts.{AllOf, Decoder, decoder_of_bytes, IsByte}
-use Rattle.x86_decode.proofs.Function.{decoded_is}
-use Rattle.x86_decode.proofs.Spelled.{one_spelling}
-use Rattle.x86_decode.proofs.Spellings.{spells_cmp, spells_je, spells_mov, spells_syscall, wrpkru_text}
+use Rattle.erim_defs.proofs.DecodeLemmas.{decode_is_exact}
+use Rattle.erim_defs.proofs.EncodingLemmas.{prefix_free}
+use Rattle.erim_defs.proofs.CheckEncodings.{encodes_cmp, encodes_je, encodes_mov, encodes_syscall}
+use Rattle.erim_defs.proofs.CheckEncodings.{wrpkru_encoding}
+use Rattle.erim_defs.specs.Inspection.Trust.{TrustValue}
+use Rattle.erim_defs.specs.Inspection.Check.{Position, Compare, Branch, Number, Leave, check_insn}
+use Rattle.erim_defs.specs.Inspection.Check.{check_bytes}
 
 -- ---- bytes
 
-check_spelled : (kind : SeqKind) (place : Place) → Spells (place_text kind place) (place_insn kind place) 0
-check_spelled Wrpkru Compare = spells_cmp
-check_spelled Wrpkru Branch = spells_je
-check_spelled Wrpkru Number = spells_mov
-check_spelled Wrpkru Leave = spells_syscall
+check_spelled : (trust : TrustValue) (kind : SeqKind) (next : ℕ) (position : Position)
+    → Encodes (check_bytes trust kind next position) (check_insn trust kind next position) 0
+check_spelled trust Wrpkru next Compare = encodes_cmp
+check_spelled trust Wrpkru next Branch = encodes_je
+check_spelled trust Wrpkru next Number = encodes_mov
+check_spelled trust Wrpkru next Leave = encodes_syscall
 
 -- prefixes and REX may stand before 0F 01 EF
-ends_in : (text : List ℕ) (skip : ℕ) → Spells text insns.Wrpkru skip → EndsInWrpkru text skip
-ends_in text skip s = let w = wrpkru_text text skip s in record { front = w.front; parts = w.parts; skipped = w.skipped }
+ends_in : (text : List ℕ) (skip : ℕ) → Encodes text insns.Wrpkru skip → EndsInWrpkru text skip
+ends_in text skip s = let w = wrpkru_encoding text skip s in
+    record { front = w.front; parts = w.parts; skipped = w.skipped }
 
 pub grammar_laws : GrammarLaws
-grammar_laws = record { one = one_spelling; decodes = decoded_is; check = check_spelled; wrpkru = ends_in }
+grammar_laws = record {
+  one = prefix_free;
+  decodes = decode_is_exact;
+  check = check_spelled;
+  wrpkru = ends_in;
+}
 
 -- ---- what the proofs of runs go by
 

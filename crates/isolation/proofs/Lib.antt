@@ -1,7 +1,3 @@
-pub mod FaultFacts
-pub mod SegmentFacts
-pub mod RecordFacts
-pub mod ImageFacts
 pub mod SequenceLemmas
 pub mod DecoderFacts
 pub mod GrammarFacts

@@ -1,5 +1,7 @@
 -- A thread opens by a WRPKRU that occurs, and then stands at an entry or before its check.
-use Rattle.std.proofs.Common.{◌≡◌, ◌<◌, ◌+◌, ◌-◌, ◌/◌, ◌%◌, ◌^◌, ◌⊎◌, ◌++◌, ◌&&◌, ℕ, zero, suc, List, [], ◌∷◌, Option, Some, None, true, false, ltb, refl, sym, ap, subst, ◌∙◌, arith, inl, inr}
+use Rattle.std.proofs.Common.{◌≡◌, ◌<◌, ◌+◌, ◌-◌, ◌/◌, ◌%◌, ◌^◌, ◌⊎◌, ◌++◌, ◌&&◌, ℕ, zero, suc}
+use Rattle.std.proofs.Common.{List, [], ◌∷◌, Option, Some, None, true, false, ltb, refl, sym, ap}
+use Rattle.std.proofs.Common.{subst, ◌∙◌, arith, inl, inr}
 use Rattle.std.specs.Prelude.{slice_get, slice_set}
 use Rattle.std.proofs.lemmas.Bool.{cases_Bool}
 use Rattle.erim_defs.specs.declared.found.SeqKind.TheVariants.{Wrpkru as WrpkruKind}
@@ -8,21 +10,25 @@ use Rattle.erim_defs.specs.declared.machine.Rights.{Rights}
 use Rattle.erim_defs.specs.declared.machine.Thread.{Thread}
 use Rattle.erim_defs.specs.declared.machine.Access.TheVariants.{Fault, Missing}
 use Rattle.erim_defs.specs.declared.insn.Insn.{Insn}
+use Rattle.erim_defs.specs.declared.insn.FetchOutcome.{FetchOutcome}
+use Rattle.erim_defs.specs.declared.insn.FetchOutcome.TheVariants.{Runs, Need, Wrong}
 use Rattle.erim_defs.specs.declared.insn.Insn.TheVariants.{Wrpkru}
-use Rattle.erim_defs.specs.declared.insn.Fetched.{Fetched}
-use Rattle.erim_defs.specs.declared.insn.Fetched.TheVariants.{Runs, Need, Wrong}
-use Rattle.erim_defs.specs.Code.{Code}
-use Rattle.erim_defs.specs.Pages.{code_with}
-use Rattle.erim_defs.specs.Access.{whole, opens}
-use Rattle.erim_defs.specs.Occurrence.{occurrence_at}
-use Rattle.erim_defs.specs.Safe.{Entries, opens_gate, fits, check_of}
-use Rattle.erim_defs.specs.Unsafe.{first_unsafe}
-use Rattle.erim_defs.specs.Image.{image_entries}
-use Rattle.erim_defs.specs.Meaning.{Write, Did, Done, Stopped, Called, does, plan, with_reg}
-use Rattle.erim_defs.specs.State.{Setup, State, code, settled}
-use Rattle.erim_defs.specs.Calls.{Change, Reply, Refusal, Answer, Quit, reply}
-use Rattle.erim_defs.specs.Step.{asks_exec, judged, exec_fault_on, made_by, is_free, went, entered, with_made, answered, changed, replied, did, moved, fetched}
-use Rattle.erim_defs.specs.Isolation.{IsSafeCode}
+use Rattle.erim_defs.specs.Inspection.Code.{Code}
+use Rattle.erim_defs.specs.Machine.Pages.{code_with, asks_exec}
+use Rattle.erim_defs.specs.Machine.Access.{whole, opens}
+use Rattle.erim_defs.specs.Inspection.Occurrence.{occurrence_at}
+use Rattle.erim_defs.specs.Inspection.Safe.{opens_gate, fits}
+use Rattle.erim_defs.specs.Inspection.Unsafe.{first_unsafe}
+use Rattle.erim_defs.specs.Inspection.Image.{image_trust}
+use Rattle.erim_defs.specs.Machine.Meaning.{Write, Effect, Done, Stopped, Called, effect, plan}
+use Rattle.erim_defs.specs.Machine.Meaning.{with_register}
+use Rattle.erim_defs.specs.Machine.State.{State, code, with_origin, trust_of}
+use Rattle.erim_defs.specs.Machine.Calls.{Change, Refusal, Answer, Quit, CallResult, call_result}
+use Rattle.erim_defs.specs.Machine.Step.{is_free, after_move, after_instruction, after_call}
+use Rattle.erim_defs.specs.Machine.Step.{after_fetch, sequence_of, with_new_thread, caller_after}
+use Rattle.erim_defs.specs.Machine.Step.{with_change, behind_syscall, after_verdict}
+use Rattle.erim_defs.specs.Machine.Step.{after_exec_fault, fetch, Runner}
+use Rattle.erim_defs.specs.Machine.Isolation.{IsSafeCode}
 use Rattle.isolation.specs.Laws.{Opened, OpenLaw}
 use Rattle.isolation.proofs.SequenceLemmas.{check_fits, occurrence_long, occurrence_there}
 use Rattle.isolation.proofs.ListLemmas.{wrpkru_fact}
@@ -33,37 +39,45 @@ use Rattle.isolation.proofs.CallLemmas.{all_fine}
 use Rattle.isolation.proofs.AlwaysLemmas.{IsGood}
 use Rattle.isolation.proofs.GrammarFacts.{Known, decoder}
 use Rattle.isolation.proofs.RunLemmas.{run_good, step_moves}
+use Rattle.erim_defs.specs.Inspection.Check.{check_of}
+use Rattle.erim_defs.specs.Inspection.Trust.{TrustValue}
 
 -- ---- lists of threads
 
-set_get : (xs : List Thread) (t i : ℕ) (v b : Thread) → slice_get (slice_set xs t v) i ≡ Some b → ((i ≡ t) × (b ≡ v)) ⊎ (slice_get xs i ≡ Some b)
+set_get : (xs : List Thread) (t i : ℕ) (v b : Thread) → slice_get (slice_set xs t v) i ≡ Some b
+    → ((i ≡ t) × (b ≡ v)) ⊎ (slice_get xs i ≡ Some b)
 set_get [] t i v b h = absurd cc
 set_get (x ∷ xs) zero zero v b h = inl (refl, (let z : v ≡ b = cc in sym z))
 set_get (x ∷ xs) zero (suc i) v b h = inr h
 set_get (x ∷ xs) (suc t) zero v b h = inr h
-set_get (x ∷ xs) (suc t) (suc i) v b h = elim (set_get xs t i v b h) [ inl e ↦ inl (ap suc e.0, e.1) | inr e ↦ inr e ]
+set_get (x ∷ xs) (suc t) (suc i) v b h =
+    elim (set_get xs t i v b h) [ inl e ↦ inl (ap suc e.0, e.1) | inr e ↦ inr e ]
 
-set_some : (xs : List Thread) (t i : ℕ) (v a : Thread) → slice_get xs i ≡ Some a → (u : Thread) × (slice_get (slice_set xs t v) i ≡ Some u)
+set_some : (xs : List Thread) (t i : ℕ) (v a : Thread) → slice_get xs i ≡ Some a
+    → (u : Thread) × (slice_get (slice_set xs t v) i ≡ Some u)
 set_some [] t i v a h = absurd cc
 set_some (x ∷ xs) zero zero v a h = (v, refl)
 set_some (x ∷ xs) zero (suc i) v a h = (a, h)
 set_some (x ∷ xs) (suc t) zero v a h = (a, h)
 set_some (x ∷ xs) (suc t) (suc i) v a h = set_some xs t i v a h
 
-append_get : (xs ys : List Thread) (i : ℕ) (a : Thread) → slice_get xs i ≡ Some a → slice_get (xs ++ ys) i ≡ Some a
+append_get : (xs ys : List Thread) (i : ℕ) (a : Thread) → slice_get xs i ≡ Some a
+    → slice_get (xs ++ ys) i ≡ Some a
 append_get [] ys i a h = absurd cc
 append_get (x ∷ xs) ys zero a h = h
 append_get (x ∷ xs) ys (suc i) a h = append_get xs ys i a h
 
 -- new threads stand behind the old ones
-made_get : (setup : Setup) (o : Option Thread) (s : State) (j : ℕ) (u : Thread) → slice_get s.threads j ≡ Some u → slice_get (with_made setup o s).threads j ≡ Some u
-made_get setup None s j u h = h
-made_get setup (Some v) s j u h = append_get s.threads (settled setup None v ∷ []) j u h
+made_get : (o : Option Thread) (s : State) (j : ℕ) (u : Thread) → slice_get s.threads j ≡ Some u
+    → slice_get (with_new_thread o s).threads j ≡ Some u
+made_get None s j u h = h
+made_get (Some v) s j u h = append_get s.threads (with_origin (trust_of s) None v ∷ []) j u h
 
 -- ---- what opens nothing
 
 -- the same thread can't be closed and open
-same_not : (o : Option Thread) (a b : Thread) → o ≡ Some a → o ≡ Some b → opens a.pkru 1 ≡ false → opens b.pkru 1 ≡ true → ⊥
+same_not : (o : Option Thread) (a b : Thread) → o ≡ Some a → o ≡ Some b → opens a.pkru 1 ≡ false
+    → opens b.pkru 1 ≡ true → ⊥
 same_not o a b e f c p =
     let k : Some a ≡ Some b = sym e ∙ f in
     let z : a ≡ b = cc in
@@ -71,58 +85,87 @@ same_not o a b e f c p =
     cc
 
 -- where the key 1 of the thread that moves is as before, nobody opens
-went_not : (ts : List Thread) (t i : ℕ) (old v a b : Thread) → slice_get ts t ≡ Some old → opens v.pkru 1 ≡ opens old.pkru 1 → slice_get ts i ≡ Some a → slice_get (slice_set ts t v) i ≡ Some b
+went_not : (ts : List Thread) (t i : ℕ) (old v a b : Thread) → slice_get ts t ≡ Some old
+    → opens v.pkru 1 ≡ opens old.pkru 1 → slice_get ts i ≡ Some a
+    → slice_get (slice_set ts t v) i ≡ Some b
     → opens a.pkru 1 ≡ false → opens b.pkru 1 ≡ true → ⊥
 went_not ts t i old v a b at p e f c o = elim (set_get ts t i v b f) [
   | inr g ↦ same_not (slice_get ts i) a b e g c o
   | inl (own, is) ↦
       (let k : Some old ≡ Some a = sym at ∙ sym (ap (slice_get ts) own) ∙ e in
       let z : old ≡ a = cc in
-      let y : false ≡ true = sym c ∙ sym (ap (λ (x : Thread). opens x.pkru 1) z) ∙ sym p ∙ sym (ap (λ (x : Thread). opens x.pkru 1) is) ∙ o in
+      let y : false ≡ true = sym c ∙ sym (ap (λ (x : Thread). opens x.pkru 1) z) ∙ sym p
+      ∙ sym (ap (λ (x : Thread). opens x.pkru 1) is) ∙ o in
       absurd cc)
 ]
 
 -- no call opens a thread
-replied_not : (r : Reply) (t i : ℕ) (old new a b : Thread) (s : State) → slice_get s.threads t ≡ Some old → opens new.pkru 1 ≡ opens old.pkru 1 → ((v : ℕ) (c : Change) → r ≡ Answer v c → opens c.pkru 1 ≡ opens new.pkru 1)
-    → slice_get s.threads i ≡ Some a → slice_get (replied r t old new s).threads i ≡ Some b → opens a.pkru 1 ≡ false → opens b.pkru 1 ≡ true → ⊥
-replied_not (Refusal e) t i old new a b s at p q f g c o = went_not s.threads t i old (settled s.setup None (with_reg new 0 (2 ^ 64 - e))) a b at p f g c o
+replied_not : (r : CallResult) (t i : ℕ) (old new a b : Thread) (s : State)
+    → slice_get s.threads t ≡ Some old → opens new.pkru 1 ≡ opens old.pkru 1
+    → ((v : ℕ) (c : Change) → r ≡ Answer v c → opens c.pkru 1 ≡ opens new.pkru 1)
+    → slice_get s.threads i ≡ Some a
+    → slice_get (after_call r (record { number = t; thread = old }) new s).threads i ≡ Some b
+    → opens a.pkru 1 ≡ false → opens b.pkru 1 ≡ true → ⊥
+replied_not (Refusal e) t i old new a b s at p q f g c o =
+    went_not s.threads t i old (with_origin (trust_of s) None (with_register new 0 (2 ^ 64 - e))) a
+    b at p f g c o
 replied_not (Answer v ch) t i old new a b s at p q f g c o =
-    let n : Thread = settled s.setup None (answered new v ch) in
+    let n : Thread = with_origin (trust_of s) None (caller_after v ch new) in
     let u = set_some s.threads t i n a f in
-    let z : slice_get (with_made s.setup ch.made (went t old (answered new v ch) None false (changed ch s))).threads i ≡ Some u.0 = made_get s.setup ch.made (went t old (answered new v ch) None false (changed ch s)) i u.0 u.1 in
+    let z : slice_get (with_new_thread ch.made
+    (after_move (record {
+      runner = record { number = t; thread = old };
+      after = (caller_after v ch new);
+      executed = None;
+      free =
+          false;
+    }) (with_change ch s))).threads i ≡ Some u.0 = made_get ch.made (after_move (record { runner = record { number = t; thread = old }; after = (caller_after v ch new); executed = None; free = false }) (with_change ch s)) i u.0 u.1 in
     let k : Some u.0 ≡ Some b = sym z ∙ g in
     let y : u.0 ≡ b = cc in
     went_not s.threads t i old n a b at (q v ch refl ∙ p) f (u.1 ∙ ap Some y) c o
-replied_not (Quit n) t i old new a b s at p q f g c o = went_not s.threads t i old (settled s.setup None new) a b at p f g c o
+replied_not (Quit n) t i old new a b s at p q f g c o =
+    went_not s.threads t i old (with_origin (trust_of s) None new) a b at p f g c o
 
-judged_threads : (u : Option Found) (t q : ℕ) (r : Rights) (s : State) → (judged u t q r s).threads ≡ s.threads
-judged_threads None t q r s = refl
-judged_threads (Some y) t q r s = refl
+judged_threads : (u : Option Found) (q : ℕ) (r : Rights) (t : Runner) (s : State)
+    → (after_verdict u q r t s).threads ≡ s.threads
+judged_threads None q r t s = refl
+judged_threads (Some y) q r t s = refl
 
-fault_threads : (o : Option Rights) (t rip x : ℕ) (s : State) → (exec_fault_on o t rip x s).threads ≡ s.threads
-fault_threads None t rip x s = refl
-fault_threads (Some r) t rip x s = elim (cases_Bool (asks_exec r.asked && ltb (x / 4096) (2 ^ 35))) [
-  | inl k ↦ rw k (judged_threads (first_unsafe (image_entries s.setup.image) (code_with s.rights s.bytes (x / 4096))) t (x / 4096) r s)
+fault_threads : (o : Option Rights) (x : ℕ) (t : Runner) (s : State)
+    → (after_exec_fault o x t s).threads ≡ s.threads
+fault_threads None x t s = refl
+fault_threads (Some r) x t s = elim (cases_Bool (asks_exec r.asked && ltb (x / 4096) (2 ^ 35))) [
+  | inl k ↦ rw k (judged_threads
+      (first_unsafe (image_trust s.setup.image) (code_with s.rights s.bytes (x / 4096))) (x / 4096)
+      r t s)
   | inr k ↦ rw k refl
 ]
 
 -- ---- WRPKRU
 
-behind_gate : (entries : Entries) (c : Code) (o : Found) (rip : ℕ) → IsSafeCode entries c → occurrence_at c o.at ≡ Some o → rip ≡ o.at + o.len → (opens_gate entries o.kind rip ≡ true) ⊎ (fits c rip (check_of o.kind) ≡ true)
-behind_gate entries c o rip safe e r = elim (cases_Bool (opens_gate entries o.kind (o.at + o.len))) [
+behind_gate : (trust : TrustValue) (c : Code) (o : Found) (rip : ℕ) → IsSafeCode trust c
+    → occurrence_at c o.at ≡ Some o → rip ≡ o.at + o.len
+    → (opens_gate trust o.kind rip ≡ true) ⊎ (fits c rip (check_of trust o.kind rip) ≡ true)
+behind_gate trust c o rip safe e r = elim (cases_Bool (opens_gate trust o.kind (o.at + o.len))) [
   | inl y ↦ inl (rw r y)
-  | inr n ↦ inr (rw r (check_fits entries c o safe e n))
+  | inr n ↦ inr (rw r (check_fits trust c o safe e n))
 ]
 
-opened_wrpkru : (s : State) (t i : ℕ) (a b new : Thread) (len skip : ℕ) (w : Option Write) → IsGood Known s → i ≡ t → fetched (code s) a.rip ≡ Runs Wrpkru len skip → Goes Wrpkru len a new w
-    → b ≡ settled s.setup (made_by Wrpkru a.rip len skip) new → Opened s t i a b
+opened_wrpkru : (s : State) (t i : ℕ) (a b new : Thread) (len skip : ℕ) (w : Option Write)
+    → IsGood Known s → i ≡ t → fetch (code s) a.rip ≡ Runs Wrpkru len skip → Goes Wrpkru len a new w
+    → b ≡ with_origin (trust_of s) (sequence_of (record { insn = Wrpkru; len = len; skip = skip })
+    a.rip) new → Opened s t i a b
 opened_wrpkru s t i a b new len skip w h own f g is =
-    let k = wrpkru_fact decoder (code s) a.rip len skip (code_kind Known s h.kind) (fetched_decoded (code s) a.rip Wrpkru len skip f) in
+    let k = wrpkru_fact decoder (code s) a.rip len skip (code_kind Known s h.kind)
+    (fetched_decoded (code s) a.rip Wrpkru len skip f) in
     let o : Found = record { at = a.rip + skip; len = len - skip; kind = WrpkruKind } in
     let within = k.within in
     let short = k.short in
     let three : len - skip ≡ 3 = (occurrence_long (code s) (a.rip + skip) o k.occurs).0 in
-    let near : a.rip + skip < 2 ^ 47 = low_at (code s) (a.rip + skip) (kept_low s h.kept) (occurrence_there (code s) (a.rip + skip) o k.occurs (a.rip + skip) (omega arith) (omega (arith, three))) in
+    let near : a.rip + skip < 2 ^ 47 =
+    low_at (code s) (a.rip + skip) (kept_low s h.kept)
+    (occurrence_there (code s) (a.rip + skip) o k.occurs (a.rip + skip) (omega arith)
+    (omega (arith, three))) in
     let next : b.rip ≡ (a.rip + len) % 2 ^ 64 = ap (λ (x : Thread). x.rip) is ∙ g.next refl in
     let to : b.rip ≡ o.at + o.len = omega (arith, next, within, short, near) in
     record {
@@ -135,52 +178,97 @@ opened_wrpkru s t i a b new len skip w h own f g is =
       made = refl;
       occurs = k.occurs;
       rip = to;
-      behind = behind_gate (image_entries s.setup.image) (code s) o b.rip h.kept.safe k.occurs to;
+      behind = behind_gate (image_trust s.setup.image) (code s) o b.rip h.kept.safe k.occurs to;
     }
 
-opened_free : (s : State) (t i : ℕ) (a b new : Thread) (insn : Insn) (len skip : ℕ) (w : Option Write) → IsGood Known s → i ≡ t → fetched (code s) a.rip ≡ Runs insn len skip → Goes insn len a new w
-    → b ≡ settled s.setup (made_by insn a.rip len skip) new → is_free insn ≡ true → Opened s t i a b
-opened_free s t i a b new Wrpkru len skip w h own f g is free = opened_wrpkru s t i a b new len skip w h own f g is
+opened_free : (s : State) (t i : ℕ) (a b new : Thread) (insn : Insn) (len skip : ℕ)
+    (w : Option Write) → IsGood Known s → i ≡ t → fetch (code s) a.rip ≡ Runs insn len skip
+    → Goes insn len a new w
+    → b ≡ with_origin (trust_of s) (sequence_of (record { insn = insn; len = len; skip = skip })
+    a.rip) new → is_free insn a ≡ true → Opened s t i a b
+opened_free s t i a b new Wrpkru len skip w h own f g is free =
+    opened_wrpkru s t i a b new len skip w h own f g is
 opened_free s t i a b new other len skip w h own f g is free = absurd cc
 
-opened_done : (s : State) (t i : ℕ) (old a b new : Thread) (insn : Insn) (len skip : ℕ) (w : Option Write) → IsGood Known s → slice_get s.threads t ≡ Some old → fetched (code s) old.rip ≡ Runs insn len skip → Goes insn len old new w
-    → slice_get s.threads i ≡ Some a → slice_get (slice_set s.threads t (settled s.setup (made_by insn old.rip len skip) new)) i ≡ Some b → opens a.pkru 1 ≡ false → opens b.pkru 1 ≡ true → Opened s t i a b
-opened_done s t i old a b new insn len skip w h at f g e k c o = elim (cases_Bool (is_free insn)) [
-  | inr n ↦ absurd (went_not s.threads t i old (settled s.setup (made_by insn old.rip len skip) new) a b at (ap (λ x. opens x 1) (g.pkru n)) e k c o)
-  | inl free ↦ elim (set_get s.threads t i (settled s.setup (made_by insn old.rip len skip) new) b k) [
-    | inr same ↦ absurd (same_not (slice_get s.threads i) a b e same c o)
-    | inl (own, is) ↦ moved_own own is free
-  ]
-]
+opened_done : (s : State) (t i : ℕ) (old a b new : Thread) (insn : Insn) (len skip : ℕ)
+    (w : Option Write) → IsGood Known s → slice_get s.threads t ≡ Some old
+    → fetch (code s) old.rip ≡ Runs insn len skip → Goes insn len old new w
+    → slice_get s.threads i ≡ Some a
+    → slice_get (slice_set s.threads t
+    (with_origin (trust_of s) (sequence_of (record { insn = insn; len = len; skip = skip })
+    old.rip) new)) i ≡ Some b → opens a.pkru 1 ≡ false → opens b.pkru 1 ≡ true → Opened s t i a b
+opened_done s t i old a b new insn len skip w h at f g e k c o =
+    elim (cases_Bool (is_free insn old)) [
+      | inr n ↦ absurd (went_not s.threads t i old
+          (with_origin (trust_of s) (sequence_of (record { insn = insn; len = len; skip = skip })
+          old.rip) new) a b at (ap (λ x. opens x 1) (g.pkru n)) e k c o)
+      | inl free ↦ elim (set_get s.threads t i
+          (with_origin (trust_of s) (sequence_of (record { insn = insn; len = len; skip = skip })
+          old.rip) new) b k) [
+            | inr same ↦ absurd (same_not (slice_get s.threads i) a b e same c o)
+            | inl (own, is) ↦ moved_own own is free
+          ]
+    ]
   where
-    moved_own : i ≡ t → b ≡ settled s.setup (made_by insn old.rip len skip) new → is_free insn ≡ true → Opened s t i a b
+    moved_own : i ≡ t → b ≡ with_origin (trust_of s)
+        (sequence_of (record { insn = insn; len = len; skip = skip }) old.rip) new
+        → is_free insn old ≡ true → Opened s t i a b
     moved_own own is free =
         let y : Some old ≡ Some a = sym at ∙ sym (ap (slice_get s.threads) own) ∙ e in
         let z : old ≡ a = cc in
-        opened_free s t i a b new insn len skip w h own (ap (λ (x : Thread). fetched (code s) x.rip) (sym z) ∙ f) (let P : Thread → Type 0 = λ x. Goes insn len x new w in subst P z g) (is ∙ ap (λ (x : Thread). settled s.setup (made_by insn x.rip len skip) new) z) free
+        opened_free s t i a b new insn len skip w h own
+        (ap (λ (x : Thread). fetch (code s) x.rip) (sym z) ∙ f) (let P : Thread
+        → Type 0 = λ x. Goes insn len x new w in subst P z g) (is
+        ∙ ap (λ (x : Thread). with_origin (trust_of s)
+        (sequence_of (record { insn = insn; len = len; skip = skip }) x.rip)
+        new) z) (ap (is_free insn) (sym z) ∙ free)
 
 -- ---- a step
 
-did_opened : (d : Did) (s : State) (t i : ℕ) (old a b : Thread) (insn : Insn) (len skip : ℕ) → IsGood Known s → slice_get s.threads t ≡ Some old → fetched (code s) old.rip ≡ Runs insn len skip
-    → does (plan insn len old) (whole s.rights) s.bytes old.pkru old.rip ≡ d
-    → slice_get s.threads i ≡ Some a → slice_get (did d insn len skip t old (record s { steps = s.steps + 1 })).threads i ≡ Some b → opens a.pkru 1 ≡ false → opens b.pkru 1 ≡ true → Opened s t i a b
+did_opened : (d : Effect) (s : State) (t i : ℕ) (old a b : Thread) (insn : Insn) (len skip : ℕ)
+    → IsGood Known s → slice_get s.threads t ≡ Some old
+    → fetch (code s) old.rip ≡ Runs insn len skip
+    → effect (plan insn len old) (whole s.rights) s.bytes old.pkru old.rip ≡ d
+    → slice_get s.threads i ≡ Some a
+    → slice_get (after_instruction d (record { insn = insn; len = len; skip = skip })
+    (record { number = t; thread = old })
+    (record s {
+      steps = s.steps + 1;
+    })).threads i ≡ Some b → opens a.pkru 1 ≡ false → opens b.pkru 1 ≡ true → Opened s t i a b
 did_opened (Done new w) s t i old a b insn len skip h at f r e k c o =
-    opened_done s t i old a b new insn len skip w h at f (does_gives (Goes insn len old) (plan insn len old) (whole s.rights) s.bytes old.pkru old.rip new w (plan_goes insn len old) r) e k c o
-did_opened (Stopped (Fault x y)) s t i old a b insn len skip h at f r e k c o = absurd (same_not (slice_get s.threads i) a b e k c o)
-did_opened (Stopped (Missing q)) s t i old a b insn len skip h at f r e k c o = absurd (same_not (slice_get s.threads i) a b e k c o)
+    opened_done s t i old a b new insn len skip w h at f
+    (does_gives (Goes insn len old) (plan insn len old) (whole s.rights) s.bytes old.pkru
+    old.rip new w (plan_goes insn len old) r) e k c o
+did_opened (Stopped (Fault x y)) s t i old a b insn len skip h at f r e k c o =
+    absurd (same_not (slice_get s.threads i) a b e k c o)
+did_opened (Stopped (Missing q)) s t i old a b insn len skip h at f r e k c o =
+    absurd (same_not (slice_get s.threads i) a b e k c o)
 did_opened Called s t i old a b insn len skip h at f r e k c o =
     let n : State = record s { steps = s.steps + 1 } in
-    absurd (replied_not (reply n (entered len old)) t i old (entered len old) a b n at refl (λ v ch q. (all_fine Known n v (entered len old) ch (kept_later s h.kept) q).pkru) e k c o)
+    absurd (replied_not (call_result n t (behind_syscall len old)) t i old (behind_syscall len old)
+    a b n at refl (λ v ch q.
+    (all_fine Known n v t (behind_syscall len old) ch (kept_later s h.kept) q).pkru) e k c o)
 
-moved_opened : (x : Fetched) (s : State) (t i : ℕ) (old a b : Thread) → IsGood Known s → slice_get s.threads t ≡ Some old → fetched (code s) old.rip ≡ x
-    → slice_get s.threads i ≡ Some a → slice_get (moved x t old (record s { steps = s.steps + 1 })).threads i ≡ Some b → opens a.pkru 1 ≡ false → opens b.pkru 1 ≡ true → Opened s t i a b
+moved_opened : (x : FetchOutcome) (s : State) (t i : ℕ) (old a b : Thread) → IsGood Known s
+    → slice_get s.threads t ≡ Some old → fetch (code s) old.rip ≡ x
+    → slice_get s.threads i ≡ Some a
+    → slice_get (after_fetch x (record { number = t; thread = old })
+    (record s {
+      steps = s.steps + 1;
+    })).threads i ≡ Some b → opens a.pkru 1 ≡ false → opens b.pkru 1 ≡ true → Opened s t i a b
 moved_opened (Runs insn len skip) s t i old a b h at f e k c o =
-    did_opened (does (plan insn len old) (whole s.rights) s.bytes old.pkru old.rip) s t i old a b insn len skip h at f refl e k c o
+    did_opened (effect (plan insn len old) (whole s.rights) s.bytes old.pkru old.rip) s t i old a b
+    insn len skip h at f refl e k c o
 moved_opened (Need x) s t i old a b h at f e k c o =
-    absurd (same_not (slice_get s.threads i) a b e (ap (λ (ts : List Thread). slice_get ts i) (sym (fault_threads (s.rights (x / 4096)) t old.rip x (record s { steps = s.steps + 1 }))) ∙ k) c o)
-moved_opened Wrong s t i old a b h at f e k c o = absurd (same_not (slice_get s.threads i) a b e k c o)
+    absurd (same_not (slice_get s.threads i) a b e
+    (ap (λ (ts : List Thread). slice_get ts i)
+    (sym (fault_threads (s.rights (x / 4096)) x (record { number = t; thread = old })
+    (record s { steps = s.steps + 1 }))) ∙ k) c o)
+moved_opened Wrong s t i old a b h at f e k c o =
+    absurd (same_not (slice_get s.threads i) a b e k c o)
 
 pub open_law : OpenLaw
 open_law s new t i a b old r e f g c o =
     let m = step_moves t s new old r.at e in
-    moved_opened (fetched (code s) old.rip) s t i old a b (run_good s t old r) r.at refl f (ap (λ (x : State). slice_get x.threads i) m ∙ g) c o
+    moved_opened (fetch (code s) old.rip) s t i old a b (run_good s t old r) r.at refl f
+    (ap (λ (x : State). slice_get x.threads i) m ∙ g) c o

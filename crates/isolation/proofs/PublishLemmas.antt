@@ -1,5 +1,8 @@
--- A page is published at an exec fault with an empty unsafe list alone, and refused for the list's first element.
-use Rattle.std.proofs.Common.{◌≡◌, ◌<◌, ◌+◌, ◌*◌, ◌/◌, ◌^◌, ◌++◌, ◌&&◌, ℕ, zero, suc, List, [], ◌∷◌, Option, Some, None, true, false, cond, eqb, ltb, refl, sym, ap, subst, ◌∙◌, arith, inl, inr, eqb-true, eq-eqb, lt-ltb}
+-- A page is published at an exec fault with an empty unsafe list alone, and refused for the list's
+-- first element.
+use Rattle.std.proofs.Common.{◌≡◌, ◌<◌, ◌+◌, ◌*◌, ◌/◌, ◌^◌, ◌++◌, ◌&&◌, ℕ, zero, suc, List, [], ◌∷◌}
+use Rattle.std.proofs.Common.{Option, Some, None, true, false, cond, eqb, ltb, refl, sym, ap, subst}
+use Rattle.std.proofs.Common.{◌∙◌, arith, inl, inr, eqb-true, eq-eqb, lt-ltb}
 use Rattle.std.proofs.lemmas.Bool.{cases_Bool, cases_lt, and_parts, and_from}
 use Rattle.erim_defs.specs.declared.found.Found.{Found}
 use Rattle.erim_defs.specs.declared.machine.Rights.{Rights}
@@ -9,24 +12,29 @@ use Rattle.erim_defs.specs.declared.machine.End.TheVariants.{Fault as EndFault, 
 use Rattle.erim_defs.specs.declared.machine.Cause.TheVariants.{Exec}
 use Rattle.erim_defs.specs.declared.machine.Access.TheVariants.{Fault, Missing}
 use Rattle.erim_defs.specs.declared.insn.Insn.{Insn}
-use Rattle.erim_defs.specs.declared.insn.Fetched.{Fetched}
-use Rattle.erim_defs.specs.declared.insn.Fetched.TheVariants.{Runs, Need, Wrong}
-use Rattle.erim_defs.specs.Code.{Code, or_else}
-use Rattle.erim_defs.specs.Pages.{RightsMap, code_with, is_published, published_code, put}
-use Rattle.erim_defs.specs.Access.{whole}
-use Rattle.erim_defs.specs.Safe.{Entries, unsafe_at}
-use Rattle.erim_defs.specs.Unsafe.{first_below, first_unsafe, found_below, listed, top, unsafe_list}
-use Rattle.erim_defs.specs.Image.{image_entries}
-use Rattle.erim_defs.specs.Meaning.{Did, Done, Stopped, Called, does, plan}
-use Rattle.erim_defs.specs.State.{Setup, State, code}
-use Rattle.erim_defs.specs.Calls.{Change, Reply, Refusal, Answer, Quit, reply}
-use Rattle.erim_defs.specs.Step.{answered, asks_exec, changed, did, ended, entered, exec_fault_on, fetched, judged, moved, published, replied, went, with_made}
-use Rattle.erim_defs.specs.Isolation.{IsKept}
+use Rattle.erim_defs.specs.declared.insn.FetchOutcome.{FetchOutcome}
+use Rattle.erim_defs.specs.declared.insn.FetchOutcome.TheVariants.{Runs, Need, Wrong}
+use Rattle.erim_defs.specs.Inspection.Code.{Code, or_else}
+use Rattle.erim_defs.specs.Machine.Pages.{RightsMap, code_with, is_published, published_code}
+use Rattle.erim_defs.specs.Machine.Pages.{with_value_at, asks_exec, published_rights}
+use Rattle.erim_defs.specs.Machine.Access.{whole}
+use Rattle.erim_defs.specs.Inspection.Safe.{unsafe_at}
+use Rattle.erim_defs.specs.Inspection.Unsafe.{first_below, first_unsafe, list_below, option_list}
+use Rattle.erim_defs.specs.Inspection.Unsafe.{top, unsafe_list}
+use Rattle.erim_defs.specs.Inspection.Image.{image_trust}
+use Rattle.erim_defs.specs.Machine.Meaning.{Effect, Done, Stopped, Called, effect, plan}
+use Rattle.erim_defs.specs.Machine.State.{State, code}
+use Rattle.erim_defs.specs.Machine.Calls.{Change, Refusal, Answer, Quit, CallResult, call_result}
+use Rattle.erim_defs.specs.Machine.Step.{after_move, after_instruction, after_call, after_fetch}
+use Rattle.erim_defs.specs.Machine.Step.{with_new_thread, caller_after, with_change, behind_syscall}
+use Rattle.erim_defs.specs.Machine.Step.{with_end, after_verdict, after_exec_fault, fetch, Runner}
+use Rattle.erim_defs.specs.Machine.Isolation.{IsKept}
 use Rattle.isolation.specs.Laws.{IsPublication, IsRefusal, PublishLaw, RefuseLaw}
 use Rattle.isolation.proofs.KeptLemmas.{IsFine, kept_later}
 use Rattle.isolation.proofs.CallLemmas.{all_fine}
 use Rattle.isolation.proofs.GrammarFacts.{Known}
 use Rattle.isolation.proofs.RunLemmas.{run_good, step_moves}
+use Rattle.erim_defs.specs.Inspection.Trust.{TrustValue}
 
 -- ---- the unsafe list and its first element
 
@@ -34,28 +42,33 @@ abbrev first_of : {X : Type 0} → List X → Option X
 first_of [] = None
 first_of (x ∷ xs) = Some x
 
-first_append : {X : Type 0} (xs ys : List X) → first_of (xs ++ ys) ≡ or_else (first_of xs) (first_of ys)
+first_append : {X : Type 0} (xs ys : List X)
+    → first_of (xs ++ ys) ≡ or_else (first_of xs) (first_of ys)
 first_append [] ys = refl
 first_append (x ∷ xs) ys = refl
 
-first_listed : {X : Type 0} (o : Option X) → first_of (listed o) ≡ o
+first_listed : {X : Type 0} (o : Option X) → first_of (option_list o) ≡ o
 first_listed None = refl
 first_listed (Some x) = refl
 
-first_is_below : {X : Type 0} (n : ℕ) (f : ℕ → Option X) → first_of (found_below n f) ≡ first_below n f
-unfolding found_below first_below
+first_is_below : {X : Type 0} (n : ℕ) (f : ℕ → Option X)
+    → first_of (list_below n f) ≡ first_below n f
+unfolding list_below first_below
 first_is_below zero f = refl
-first_is_below (suc n) f = first_append (found_below n f) (listed (f n)) ∙ ap (λ o. or_else o (first_of (listed (f n)))) (first_is_below n f) ∙ ap (or_else (first_below n f)) (first_listed (f n))
+first_is_below (suc n) f = first_append (list_below n f) (option_list (f n))
+    ∙ ap (λ o. or_else o (first_of (option_list (f n)))) (first_is_below n f)
+    ∙ ap (or_else (first_below n f)) (first_listed (f n))
 
-first_is : (entries : Entries) (c : Code) → first_of (unsafe_list entries c) ≡ first_unsafe entries c
+first_is : (trust : TrustValue) (c : Code) → first_of (unsafe_list trust c) ≡ first_unsafe trust c
 unfolding unsafe_list first_unsafe
-first_is entries c = first_is_below top (unsafe_at entries c)
+first_is trust c = first_is_below top (unsafe_at trust c)
 
 empty_of : {X : Type 0} (xs : List X) → first_of xs ≡ None → xs ≡ []
 empty_of [] e = refl
 empty_of (x ∷ xs) e = absurd cc
 
-begins_of : {X : Type 0} (xs : List X) (y : X) → first_of xs ≡ Some y → (rest : List X) × (xs ≡ y ∷ rest)
+begins_of : {X : Type 0} (xs : List X) (y : X) → first_of xs ≡ Some y
+    → (rest : List X) × (xs ≡ y ∷ rest)
 begins_of [] y e = absurd cc
 begins_of (x ∷ xs) y e = let z : x ≡ y = cc in (xs, ap (λ (w : _). w ∷ xs) z)
 
@@ -64,99 +77,161 @@ begins_of (x ∷ xs) y e = let z : x ≡ y = cc in (xs, ap (λ (w : _). w ∷ xs
 same_published : (o : Option Rights) → is_published o ≡ false → is_published o ≡ true → ⊥
 same_published o f g = let z : false ≡ true = sym f ∙ g in cc
 
-judged_publishes : (u : Option Found) (t p q : ℕ) (r : Rights) (s : State) → is_published (s.rights q) ≡ false → is_published ((judged u t p r s).rights q) ≡ true → (p ≡ q) × (u ≡ None)
-judged_publishes (Some y) t p q r s f g = absurd (same_published (s.rights q) f g)
-judged_publishes None t p q r s f g = elim (cases_Bool (eqb q p)) [
+judged_publishes : (u : Option Found) (p q : ℕ) (r : Rights) (t : Runner) (s : State)
+    → is_published (s.rights q) ≡ false → is_published ((after_verdict u p r t s).rights q) ≡ true
+    → (p ≡ q) × (u ≡ None)
+judged_publishes (Some y) p q r t s f g = absurd (same_published (s.rights q) f g)
+judged_publishes None p q r t s f g = elim (cases_Bool (eqb q p)) [
   | inl e ↦ (sym (eqb-true _ _ e), refl)
   | inr e ↦ absurd (same_published (s.rights q) f (rw e at g))
 ]
 
-fault_publishes : (o : Option Rights) (s : State) (old : Thread) (t x q : ℕ) → s.rights (x / 4096) ≡ o → fetched (code s) old.rip ≡ Need x → is_published (s.rights q) ≡ false
-    → is_published ((exec_fault_on o t old.rip x (record s { steps = s.steps + 1 })).rights q) ≡ true → IsPublication s q old
+fault_publishes : (o : Option Rights) (s : State) (old : Thread) (t x q : ℕ)
+    → s.rights (x / 4096) ≡ o → fetch (code s) old.rip ≡ Need x → is_published (s.rights q) ≡ false
+    → is_published ((after_exec_fault o x (record { number = t; thread = old })
+    (record s { steps = s.steps + 1 })).rights q) ≡ true → IsPublication s q old
 fault_publishes None s old t x q m e f g = absurd (same_published (s.rights q) f g)
-fault_publishes (Some r) s old t x q m e f g = elim (cases_Bool (asks_exec r.asked && ltb (x / 4096) (2 ^ 35))) [
-  | inr k ↦ absurd (same_published (s.rights q) f (rw k at g))
-  | inl k ↦
-      (let j = judged_publishes (first_unsafe (image_entries s.setup.image) (code_with s.rights s.bytes (x / 4096))) t (x / 4096) q r (record s { steps = s.steps + 1 }) f (rw k at g) in
-      let same : x / 4096 ≡ q = j.0 in
-      let none : first_unsafe (image_entries s.setup.image) (code_with s.rights s.bytes q) ≡ None = ap (λ p. first_unsafe (image_entries s.setup.image) (code_with s.rights s.bytes p)) (sym same) ∙ j.1 in
-      record {
-        x = x;
-        rights = r;
-        needs = e;
-        page = same;
-        mapped = ap s.rights (sym same) ∙ m;
-        asks = (and_parts _ _ k).0;
-        safe = empty_of (unsafe_list (image_entries s.setup.image) (code_with s.rights s.bytes q)) (first_is (image_entries s.setup.image) (code_with s.rights s.bytes q) ∙ none);
-      })
-]
+fault_publishes (Some r) s old t x q m e f g =
+    elim (cases_Bool (asks_exec r.asked && ltb (x / 4096) (2 ^ 35))) [
+      | inr k ↦ absurd (same_published (s.rights q) f (rw k at g))
+      | inl k ↦
+          (let j = judged_publishes
+          (first_unsafe (image_trust s.setup.image) (code_with s.rights s.bytes (x / 4096)))
+          (x / 4096) q r (record { number = t; thread = old }) (record s { steps = s.steps + 1 }) f
+          (rw k at g) in
+          let same : x / 4096 ≡ q = j.0 in
+          let none : first_unsafe (image_trust s.setup.image) (code_with s.rights s.bytes q)
+          ≡ None =
+          ap (λ p. first_unsafe (image_trust s.setup.image) (code_with s.rights s.bytes p))
+          (sym same) ∙ j.1 in
+          record {
+            x = x;
+            rights = r;
+            needs = e;
+            page = same;
+            mapped = ap s.rights (sym same) ∙ m;
+            asks = (and_parts _ _ k).0;
+            safe = empty_of (unsafe_list (image_trust s.setup.image) (code_with s.rights s.bytes q))
+                (first_is (image_trust s.setup.image) (code_with s.rights s.bytes q) ∙ none);
+          })
+    ]
 
 -- no call publishes
-call_publishes : (s : State) (t : Thread) (c : Change) (q : ℕ) → IsFine Known s t c → is_published (s.rights q) ≡ false → is_published (c.rights q) ≡ true → ⊥
+call_publishes : (s : State) (t : Thread) (c : Change) (q : ℕ) → IsFine Known s t c
+    → is_published (s.rights q) ≡ false → is_published (c.rights q) ≡ true → ⊥
 call_publishes s t c q h f g =
     let e : 4096 * q / 4096 ≡ q = omega arith in
-    let before : is_published (s.rights (4096 * q / 4096)) ≡ false = subst (λ (p : ℕ). is_published (s.rights p) ≡ false) (sym e) f in
-    let after : is_published (c.rights (4096 * q / 4096)) ≡ true = subst (λ (p : ℕ). is_published (c.rights p) ≡ true) (sym e) g in
-    let x : published_code c.rights c.bytes (4096 * q) ≡ Some (c.bytes (4096 * q)) = rw after refl in
+    let before : is_published (s.rights (4096 * q / 4096)) ≡ false =
+    subst (λ (p : ℕ). is_published (s.rights p) ≡ false) (sym e) f in
+    let after : is_published (c.rights (4096 * q / 4096)) ≡ true =
+    subst (λ (p : ℕ). is_published (c.rights p) ≡ true) (sym e) g in
+    let x : published_code c.rights c.bytes (4096 * q) ≡ Some (c.bytes (4096 * q)) =
+    rw after refl in
     let y : code s (4096 * q) ≡ None = rw before refl in
     elim (h.loses (4096 * q)) [
       | inl z ↦ absurd (let k : Some (c.bytes (4096 * q)) ≡ None = sym x ∙ z ∙ y in cc)
       | inr z ↦ absurd (let k : Some (c.bytes (4096 * q)) ≡ None = sym x ∙ z in cc)
     ]
 
-made_rights : (setup : Setup) (o : Option Thread) (s : State) → (with_made setup o s).rights ≡ s.rights
-made_rights setup None s = refl
-made_rights setup (Some u) s = refl
+made_rights : (o : Option Thread) (s : State) → (with_new_thread o s).rights ≡ s.rights
+made_rights None s = refl
+made_rights (Some u) s = refl
 
-replied_publishes : (r : Reply) (t q : ℕ) (old new : Thread) (s : State) → ((v : ℕ) (c : Change) → r ≡ Answer v c → IsFine Known s new c) → is_published (s.rights q) ≡ false → is_published ((replied r t old new s).rights q) ≡ true → ⊥
+replied_publishes : (r : CallResult) (t q : ℕ) (old new : Thread) (s : State)
+    → ((v : ℕ) (c : Change) → r ≡ Answer v c → IsFine Known s new c)
+    → is_published (s.rights q) ≡ false
+    → is_published ((after_call r (record { number = t; thread = old }) new s).rights q) ≡ true → ⊥
 replied_publishes (Refusal e) t q old new s h f g = same_published (s.rights q) f g
 replied_publishes (Answer v c) t q old new s h f g =
-    call_publishes s new c q (h v c refl) f (ap (λ (m : RightsMap). is_published (m q)) (sym (made_rights s.setup c.made (went t old (answered new v c) None false (changed c s)))) ∙ g)
+    call_publishes s new c q (h v c refl) f
+    (ap (λ (m : RightsMap). is_published (m q))
+    (sym (made_rights c.made
+    (after_move (record {
+      runner = record { number = t; thread = old };
+      after = (caller_after v c new);
+      executed = None;
+      free = false;
+    }) (with_change c s)))) ∙ g)
 replied_publishes (Quit n) t q old new s h f g = same_published (s.rights q) f g
 
-did_publishes : (r : Did) (insn : Insn) (len skip t q : ℕ) (old : Thread) (s : State) → IsKept s → is_published (s.rights q) ≡ false → is_published ((did r insn len skip t old s).rights q) ≡ true → ⊥
+did_publishes : (r : Effect) (insn : Insn) (len skip t q : ℕ) (old : Thread) (s : State) → IsKept s
+    → is_published (s.rights q) ≡ false
+    → is_published ((after_instruction r (record { insn = insn; len = len; skip = skip })
+    (record { number = t; thread = old }) s).rights q) ≡ true → ⊥
 did_publishes (Done new w) insn len skip t q old s h f g = same_published (s.rights q) f g
 did_publishes (Stopped (Fault x y)) insn len skip t q old s h f g = same_published (s.rights q) f g
 did_publishes (Stopped (Missing x)) insn len skip t q old s h f g = same_published (s.rights q) f g
-did_publishes Called insn len skip t q old s h f g = replied_publishes (reply s (entered len old)) t q old (entered len old) s (λ v c k. all_fine Known s v (entered len old) c h k) f g
+did_publishes Called insn len skip t q old s h f g =
+    replied_publishes (call_result s t (behind_syscall len old)) t q old (behind_syscall len old) s
+    (λ v c k. all_fine Known s v t (behind_syscall len old) c h k) f g
 
-moved_publishes : (y : Fetched) (s : State) (t q : ℕ) (old : Thread) → IsKept s → fetched (code s) old.rip ≡ y → is_published (s.rights q) ≡ false → is_published ((moved y t old (record s { steps = s.steps + 1 })).rights q) ≡ true
+moved_publishes : (y : FetchOutcome) (s : State) (t q : ℕ) (old : Thread) → IsKept s
+    → fetch (code s) old.rip ≡ y → is_published (s.rights q) ≡ false
+    → is_published ((after_fetch y (record { number = t; thread = old })
+    (record s { steps = s.steps + 1 })).rights q) ≡ true
     → IsPublication s q old
 moved_publishes (Runs insn len skip) s t q old h e f g =
-    absurd (did_publishes (does (plan insn len old) (whole s.rights) s.bytes old.pkru old.rip) insn len skip t q old (record s { steps = s.steps + 1 }) (kept_later s h) f g)
+    absurd (did_publishes (effect (plan insn len old) (whole s.rights) s.bytes old.pkru old.rip)
+    insn len skip t q old (record s { steps = s.steps + 1 }) (kept_later s h) f g)
 moved_publishes Wrong s t q old h e f g = absurd (same_published (s.rights q) f g)
-moved_publishes (Need x) s t q old h e f g = fault_publishes (s.rights (x / 4096)) s old t x q refl e f g
+moved_publishes (Need x) s t q old h e f g =
+    fault_publishes (s.rights (x / 4096)) s old t x q refl e f g
 
 low_page : (s : State) (q : ℕ) (r : Rights) → IsKept s → s.rights q ≡ Some r → q < 2 ^ 35
-low_page s q r h m = elim (cases_lt q (2 ^ 35)) [ inl l ↦ l | inr l ↦ absurd (let k : None ≡ Some r = sym (h.low q l) ∙ m in cc) ]
+low_page s q r h m = elim (cases_lt q (2 ^ 35)) [
+  | inl l ↦ l
+  | inr l ↦
+      absurd (let k : None ≡ Some r = sym (h.low q l) ∙ m in cc)
+]
 
 -- what becomes of an exec fault on a page that asks PROT_EXEC
-faulted : (s : State) (t x q : ℕ) (r : Rights) (old : Thread) (o : Option Found) → IsKept s → fetched (code s) old.rip ≡ Need x → x / 4096 ≡ q → s.rights q ≡ Some r → asks_exec r.asked ≡ true
-    → first_unsafe (image_entries s.setup.image) (code_with s.rights s.bytes q) ≡ o → moved (fetched (code s) old.rip) t old (record s { steps = s.steps + 1 }) ≡ judged o t q r (record s { steps = s.steps + 1 })
+faulted : (s : State) (t x q : ℕ) (r : Rights) (old : Thread) (o : Option Found) → IsKept s
+    → fetch (code s) old.rip ≡ Need x → x / 4096 ≡ q → s.rights q ≡ Some r
+    → asks_exec r.asked ≡ true
+    → first_unsafe (image_trust s.setup.image) (code_with s.rights s.bytes q) ≡ o
+    → after_fetch (fetch (code s) old.rip) (record { number = t; thread = old })
+    (record s { steps = s.steps + 1 })
+    ≡ after_verdict o q r (record { number = t; thread = old })
+    (record s { steps = s.steps + 1 })
 faulted s t x q r old o h needs page mapped asks first =
     let later : State = record s { steps = s.steps + 1 } in
     let m : s.rights (x / 4096) ≡ Some r = ap s.rights page ∙ mapped in
-    let here : first_unsafe (image_entries s.setup.image) (code_with s.rights s.bytes (x / 4096)) ≡ o = ap (λ p. first_unsafe (image_entries s.setup.image) (code_with s.rights s.bytes p)) page ∙ first in
-    let test : (asks_exec r.asked && ltb (x / 4096) (2 ^ 35)) ≡ true = and_from _ _ asks (lt-ltb _ _ (low_page s (x / 4096) r h m)) in
-    ap (λ f. moved f t old later) needs
-    ∙ ap (λ o. exec_fault_on o t old.rip x later) m
-    ∙ ap (λ b. cond b (judged (first_unsafe (image_entries s.setup.image) (code_with s.rights s.bytes (x / 4096))) t (x / 4096) r later) (ended (EndFault t old.rip Exec x) later)) test
-    ∙ ap (λ o. judged o t (x / 4096) r later) here
-    ∙ ap (λ p. judged o t p r later) page
+    let here : first_unsafe (image_trust s.setup.image) (code_with s.rights s.bytes (x / 4096))
+    ≡ o = ap (λ p. first_unsafe (image_trust s.setup.image) (code_with s.rights s.bytes p)) page
+    ∙ first in
+    let test : (asks_exec r.asked && ltb (x / 4096) (2 ^ 35)) ≡ true =
+    and_from _ _ asks (lt-ltb _ _ (low_page s (x / 4096) r h m)) in
+    ap (λ f. after_fetch f (record { number = t; thread = old }) later) needs
+    ∙ ap (λ o. after_exec_fault o x (record { number = t; thread = old }) later) m
+    ∙ ap (λ b. cond b (after_verdict
+    (first_unsafe (image_trust s.setup.image) (code_with s.rights s.bytes (x / 4096)))
+    (x / 4096) r (record { number = t; thread = old }) later) (with_end
+    (EndFault t old.rip Exec x) later)) test
+    ∙ ap (λ o. after_verdict o (x / 4096) r (record { number = t; thread = old }) later) here
+    ∙ ap (λ p. after_verdict o p r (record { number = t; thread = old }) later) page
 
-put_published : (s : State) (q : ℕ) (r : Rights) → is_published (put s.rights q (Some (published r)) q) ≡ true
+put_published : (s : State) (q : ℕ) (r : Rights)
+    → is_published (with_value_at s.rights q (Some (published_rights r)) q) ≡ true
 put_published s q r = rw (eq-eqb q q refl) refl
 
-published_moves : (s : State) (t q : ℕ) (old : Thread) → IsKept s → (w : IsPublication s q old) → is_published ((moved (fetched (code s) old.rip) t old (record s { steps = s.steps + 1 })).rights q) ≡ true
+published_moves : (s : State) (t q : ℕ) (old : Thread) → IsKept s → (w : IsPublication s q old)
+    → is_published ((after_fetch (fetch (code s) old.rip) (record { number = t; thread = old })
+    (record s { steps = s.steps + 1 })).rights q) ≡ true
 published_moves s t q old h w =
-    let none : first_unsafe (image_entries s.setup.image) (code_with s.rights s.bytes q) ≡ None = sym (first_is (image_entries s.setup.image) (code_with s.rights s.bytes q)) ∙ ap first_of w.safe in
-    ap (λ (x : State). is_published (x.rights q)) (faulted s t w.x q w.rights old None h w.needs w.page w.mapped w.asks none) ∙ put_published s q w.rights
+    let none : first_unsafe (image_trust s.setup.image) (code_with s.rights s.bytes q) ≡ None =
+    sym (first_is (image_trust s.setup.image) (code_with s.rights s.bytes q))
+    ∙ ap first_of w.safe in
+    ap (λ (x : State). is_published (x.rights q))
+    (faulted s t w.x q w.rights old None h w.needs w.page w.mapped w.asks none)
+    ∙ put_published s q w.rights
 
 pub publish_law : PublishLaw
 publish_law s new t q old r e f =
     let m = step_moves t s new old r.at e in (
-      λ g. moved_publishes (fetched (code s) old.rip) s t q old (run_good s t old r).kept refl f (ap (λ (x : State). is_published (x.rights q)) m ∙ g),
-      λ w. ap (λ (x : State). is_published (x.rights q)) (sym m) ∙ published_moves s t q old (run_good s t old r).kept w,
+      λ g. moved_publishes (fetch (code s) old.rip) s t q old (run_good s t old r).kept refl f
+          (ap (λ (x : State). is_published (x.rights q)) m ∙ g),
+      λ w. ap (λ (x : State). is_published (x.rights q)) (sym m)
+          ∙ published_moves s t q old (run_good s t old r).kept w,
     )
 
 -- ---- refusal
@@ -169,57 +244,111 @@ record Judges (p q t u : ℕ) (o : Option Found) (found : Found) : Type 0 where
   thread : u ≡ t
   first : o ≡ Some found
 
-judged_refuses : (o : Option Found) (t p q u : ℕ) (found : Found) (r : Rights) (s : State) → s.end ≡ None → (judged o t p r s).end ≡ Some (Refused q found u) → Judges p q t u o found
-judged_refuses None t p q u found r s n e = absurd (refused_not s.end q found u n e)
-judged_refuses (Some y) t p q u found r s n e = record {
+judged_refuses : (o : Option Found) (p q u : ℕ) (found : Found) (r : Rights) (t : Runner)
+    (s : State) → s.end ≡ None → (after_verdict o p r t s).end ≡ Some (Refused q found u)
+    → Judges p q t.number u o found
+judged_refuses None p q u found r t s n e = absurd (refused_not s.end q found u n e)
+judged_refuses (Some y) p q u found r t s n e = record {
   page = cc;
   thread = cc;
   first = (let z : y ≡ found = cc in ap Some z);
 }
 
-fault_refuses : (o : Option Rights) (s : State) (old : Thread) (t x q : ℕ) (found : Found) (u : ℕ) → s.end ≡ None → s.rights (x / 4096) ≡ o → fetched (code s) old.rip ≡ Need x
-    → (exec_fault_on o t old.rip x (record s { steps = s.steps + 1 })).end ≡ Some (Refused q found u) → (u ≡ t) × IsRefusal s q found old
+fault_refuses : (o : Option Rights) (s : State) (old : Thread) (t x q : ℕ) (found : Found) (u : ℕ)
+    → s.end ≡ None → s.rights (x / 4096) ≡ o → fetch (code s) old.rip ≡ Need x
+    → (after_exec_fault o x (record { number = t; thread = old })
+    (record s { steps = s.steps + 1 })).end ≡ Some (Refused q found u) → (u
+    ≡ t) × IsRefusal s q found old
 fault_refuses None s old t x q found u n m f e = absurd cc
-fault_refuses (Some r) s old t x q found u n m f e = elim (cases_Bool (asks_exec r.asked && ltb (x / 4096) (2 ^ 35))) [
-  | inr k ↦ absurd (let y : Some (EndFault t old.rip Exec x) ≡ Some (Refused q found u) = rw k at e in cc)
-  | inl k ↦
-      (let j = judged_refuses (first_unsafe (image_entries s.setup.image) (code_with s.rights s.bytes (x / 4096))) t (x / 4096) q u found r (record s { steps = s.steps + 1 }) n (rw k at e) in
-      let same : x / 4096 ≡ q = j.page in
-      let first : first_unsafe (image_entries s.setup.image) (code_with s.rights s.bytes q) ≡ Some found = ap (λ p. first_unsafe (image_entries s.setup.image) (code_with s.rights s.bytes p)) (sym same) ∙ j.first in
-      let list = begins_of (unsafe_list (image_entries s.setup.image) (code_with s.rights s.bytes q)) found (first_is (image_entries s.setup.image) (code_with s.rights s.bytes q) ∙ first) in
-      (j.thread, record { x = x; rights = r; rest = list.0; needs = f; page = same; mapped = ap s.rights (sym same) ∙ m; asks = (and_parts _ _ k).0; unsafe = list.1 }))
-]
+fault_refuses (Some r) s old t x q found u n m f e =
+    elim (cases_Bool (asks_exec r.asked && ltb (x / 4096) (2 ^ 35))) [
+      | inr k ↦ absurd (let y : Some (EndFault t old.rip Exec x)
+          ≡ Some (Refused q found u) = rw k at e in cc)
+      | inl k ↦
+          (let j = judged_refuses (first_unsafe (image_trust s.setup.image)
+          (code_with s.rights s.bytes (x / 4096))) (x / 4096) q u found r (record {
+            number = t;
+            thread = old;
+          }) (record s { steps = s.steps + 1 }) n (rw k at e) in
+          let same : x / 4096 ≡ q = j.page in
+          let first : first_unsafe (image_trust s.setup.image) (code_with s.rights s.bytes q)
+          ≡ Some found = ap (λ p. first_unsafe (image_trust s.setup.image)
+          (code_with s.rights s.bytes p)) (sym same) ∙ j.first in
+          let list = begins_of (unsafe_list (image_trust s.setup.image)
+          (code_with s.rights s.bytes q))
+          found (first_is (image_trust s.setup.image) (code_with s.rights s.bytes q) ∙ first) in (
+            j.thread,
+            record {
+              x = x;
+              rights = r;
+              rest = list.0;
+              needs = f;
+              page = same;
+              mapped = ap s.rights (sym same) ∙ m;
+              asks = (and_parts _ _ k).0;
+              unsafe = list.1;
+            },
+          ))
+    ]
 
-made_end : (setup : Setup) (o : Option Thread) (s : State) → (with_made setup o s).end ≡ s.end
-made_end setup None s = refl
-made_end setup (Some u) s = refl
+made_end : (o : Option Thread) (s : State) → (with_new_thread o s).end ≡ s.end
+made_end None s = refl
+made_end (Some u) s = refl
 
-replied_refuses : (r : Reply) (t q : ℕ) (found : Found) (u : ℕ) (old new : Thread) (s : State) → s.end ≡ None → (replied r t old new s).end ≡ Some (Refused q found u) → ⊥
+replied_refuses : (r : CallResult) (t q : ℕ) (found : Found) (u : ℕ) (old new : Thread) (s : State)
+    → s.end ≡ None → (after_call r (record { number = t; thread = old }) new s).end
+    ≡ Some (Refused q found u) → ⊥
 replied_refuses (Refusal e) t q found u old new s n f = refused_not s.end q found u n f
-replied_refuses (Answer v c) t q found u old new s n f = refused_not s.end q found u n (sym (made_end s.setup c.made (went t old (answered new v c) None false (changed c s))) ∙ f)
+replied_refuses (Answer v c) t q found u old new s n f =
+    refused_not s.end q found u n
+    (sym (made_end c.made (after_move
+    (record {
+      runner = record { number = t; thread = old };
+      after = (caller_after v c new);
+      executed = None;
+      free = false;
+    }) (with_change c s))) ∙ f)
 replied_refuses (Quit x) t q found u old new s n f = absurd cc
 
-did_refuses : (r : Did) (insn : Insn) (len skip t q : ℕ) (found : Found) (u : ℕ) (old : Thread) (s : State) → s.end ≡ None → (did r insn len skip t old s).end ≡ Some (Refused q found u) → ⊥
+did_refuses : (r : Effect) (insn : Insn) (len skip t q : ℕ) (found : Found) (u : ℕ) (old : Thread)
+    (s : State) → s.end ≡ None
+    → (after_instruction r (record { insn = insn; len = len; skip = skip })
+    (record { number = t; thread = old }) s).end ≡ Some (Refused q found u) → ⊥
 did_refuses (Done new w) insn len skip t q found u old s n f = refused_not s.end q found u n f
 did_refuses (Stopped (Fault x y)) insn len skip t q found u old s n f = absurd cc
-did_refuses (Stopped (Missing x)) insn len skip t q found u old s n f = refused_not s.end q found u n f
-did_refuses Called insn len skip t q found u old s n f = replied_refuses (reply s (entered len old)) t q found u old (entered len old) s n f
+did_refuses (Stopped (Missing x)) insn len skip t q found u old s n f =
+    refused_not s.end q found u n f
+did_refuses Called insn len skip t q found u old s n f =
+    replied_refuses (call_result s t (behind_syscall len old)) t q found u old
+    (behind_syscall len old) s n f
 
-moved_refuses : (y : Fetched) (s : State) (t q : ℕ) (found : Found) (u : ℕ) (old : Thread) → s.end ≡ None → fetched (code s) old.rip ≡ y
-    → (moved y t old (record s { steps = s.steps + 1 })).end ≡ Some (Refused q found u) → (u ≡ t) × IsRefusal s q found old
+moved_refuses : (y : FetchOutcome) (s : State) (t q : ℕ) (found : Found) (u : ℕ) (old : Thread)
+    → s.end ≡ None → fetch (code s) old.rip ≡ y
+    → (after_fetch y (record { number = t; thread = old }) (record s { steps = s.steps + 1 })).end
+    ≡ Some (Refused q found u) → (u ≡ t) × IsRefusal s q found old
 moved_refuses (Runs insn len skip) s t q found u old n e f =
-    absurd (did_refuses (does (plan insn len old) (whole s.rights) s.bytes old.pkru old.rip) insn len skip t q found u old (record s { steps = s.steps + 1 }) n f)
+    absurd (did_refuses (effect (plan insn len old) (whole s.rights) s.bytes old.pkru old.rip) insn
+    len skip t q found u old (record s { steps = s.steps + 1 }) n f)
 moved_refuses Wrong s t q found u old n e f = absurd cc
-moved_refuses (Need x) s t q found u old n e f = fault_refuses (s.rights (x / 4096)) s old t x q found u n refl e f
+moved_refuses (Need x) s t q found u old n e f =
+    fault_refuses (s.rights (x / 4096)) s old t x q found u n refl e f
 
-refused_moves : (s : State) (t q : ℕ) (found : Found) (u : ℕ) (old : Thread) → IsKept s → u ≡ t → (w : IsRefusal s q found old) → (moved (fetched (code s) old.rip) t old (record s { steps = s.steps + 1 })).end ≡ Some (Refused q found u)
+refused_moves : (s : State) (t q : ℕ) (found : Found) (u : ℕ) (old : Thread) → IsKept s → u ≡ t
+    → (w : IsRefusal s q found old)
+    → (after_fetch (fetch (code s) old.rip) (record { number = t; thread = old })
+    (record s { steps = s.steps + 1 })).end ≡ Some (Refused q found u)
 refused_moves s t q found u old h own w =
-    let first : first_unsafe (image_entries s.setup.image) (code_with s.rights s.bytes q) ≡ Some found = sym (first_is (image_entries s.setup.image) (code_with s.rights s.bytes q)) ∙ ap first_of w.unsafe in
-    ap (λ (x : State). x.end) (faulted s t w.x q w.rights old (Some found) h w.needs w.page w.mapped w.asks first) ∙ ap (λ v. Some (Refused q found v)) (sym own)
+    let first : first_unsafe (image_trust s.setup.image) (code_with s.rights s.bytes q)
+    ≡ Some found = sym (first_is (image_trust s.setup.image) (code_with s.rights s.bytes q))
+    ∙ ap first_of w.unsafe in
+    ap (λ (x : State). x.end) (faulted s t w.x q w.rights old (Some found) h w.needs w.page w.mapped
+    w.asks first) ∙ ap (λ v. Some (Refused q found v)) (sym own)
 
 pub refuse_law : RefuseLaw
 refuse_law s new t u q found old r e =
     let m = step_moves t s new old r.at e in (
-      λ f. moved_refuses (fetched (code s) old.rip) s t q found u old r.going refl (ap (λ (x : State). x.end) m ∙ f),
-      λ w. ap (λ (x : State). x.end) (sym m) ∙ refused_moves s t q found u old (run_good s t old r).kept w.0 w.1,
+      λ f. moved_refuses (fetch (code s) old.rip) s t q found u old r.going refl
+          (ap (λ (x : State). x.end) m ∙ f),
+      λ w. ap (λ (x : State). x.end) (sym m)
+          ∙ refused_moves s t q found u old (run_good s t old r).kept w.0 w.1,
     )

@@ -1,20 +1,21 @@
 -- Occurrences and checks in two codes: what stays where bytes stay, and what lost bytes can't make.
-use Rattle.std.proofs.Common.{◌≡◌, ◌<◌, ◌≤◌, ◌+◌, ◌⊎◌, ℕ, zero, suc, ◌-◌, List, [], ◌∷◌, Option, Some, None, Bool, true, false, cond, refl, sym, ap, ◌∙◌, arith, inl, inr}
+use Rattle.std.proofs.Common.{◌≡◌, ◌<◌, ◌≤◌, ◌+◌, ◌⊎◌, ℕ, zero, suc, ◌-◌, List, [], ◌∷◌, Option}
+use Rattle.std.proofs.Common.{Some, None, Bool, true, false, cond, refl, sym, ap, ◌∙◌, arith, inl}
+use Rattle.std.proofs.Common.{inr}
 use Rattle.std.proofs.lemmas.Bool.{cases_Bool, and_parts, and_from}
 use Rattle.erim_defs.specs.declared.found.Found.{Found}
-use Rattle.erim_defs.specs.Code.{Code}
-use Rattle.erim_defs.specs.Occurrence.{occurrence_at}
-use Rattle.erim_defs.specs.Safe.{Entries, fits, check_of, opens_gate, is_safe, unless_safe, unsafe_at}
-use Rattle.erim_defs.specs.Isolation.{IsSafeCode}
+use Rattle.erim_defs.specs.Inspection.Code.{Code}
+use Rattle.erim_defs.specs.Inspection.Occurrence.{occurrence_at}
+use Rattle.erim_defs.specs.Inspection.Safe.{fits, opens_gate, is_safe, unless_safe, unsafe_at}
+use Rattle.erim_defs.specs.Machine.Isolation.{IsSafeCode}
+use Rattle.erim_defs.proofs.LossLemmas.{Loses, cond_safe, fits_loses, safe_loses}
 use Rattle.erim_defs.proofs.OccurrenceLemmas.{WrpkruAt, occurrence_view, occurrence_place}
+use Rattle.erim_defs.specs.Inspection.Check.{check_of}
+use Rattle.erim_defs.specs.Inspection.Trust.{TrustValue}
 
 -- two codes agree on the n addresses from a on
 abbrev pub Agree : Code → Code → ℕ → ℕ → Type 0
 Agree c d a n = (x : ℕ) → a ≤ x → x < a + n → c x ≡ d x
-
--- c is d, but for bytes that aren't there any more
-abbrev pub Loses : Code → Code → Type 0
-Loses c d = (x : ℕ) → (c x ≡ d x) ⊎ (c x ≡ None)
 
 -- a byte is there
 abbrev pub is_there : Option ℕ → Bool
@@ -27,11 +28,14 @@ unfolding occurrence_at
 occurrence_from c a o w = rw (w.first, w.second, w.third) (ap Some (sym w.is))
 
 -- how long an occurrence is, and where it stands
-pub occurrence_long : (c : Code) (a : ℕ) (o : Found) → occurrence_at c a ≡ Some o → (o.len ≡ 3) × (o.at ≡ a)
-occurrence_long c a o h = (ap (λ (f : Found). f.len) (occurrence_view c a o h).is, occurrence_place c a o h)
+pub occurrence_long : (c : Code) (a : ℕ) (o : Found) → occurrence_at c a ≡ Some o
+    → (o.len ≡ 3) × (o.at ≡ a)
+occurrence_long c a o h =
+    (ap (λ (f : Found). f.len) (occurrence_view c a o h).is, occurrence_place c a o h)
 
 -- all its bytes are there
-pub occurrence_there : (c : Code) (a : ℕ) (o : Found) → occurrence_at c a ≡ Some o → (x : ℕ) → a ≤ x → x < a + o.len → is_there (c x) ≡ true
+pub occurrence_there : (c : Code) (a : ℕ) (o : Found) → occurrence_at c a ≡ Some o → (x : ℕ) → a ≤ x
+    → x < a + o.len → is_there (c x) ≡ true
 occurrence_there c a o h x low high =
     let w = occurrence_view c a o h in
     let long = (occurrence_long c a o h).0 in
@@ -44,7 +48,8 @@ occurrence_there c a o h x low high =
     by_place w (suc (suc (suc k))) e l = absurd (omega arith)
 
 -- an occurrence stays where its own bytes stay
-pub occurrence_same : (c d : Code) (a : ℕ) (o : Found) → occurrence_at d a ≡ Some o → Agree c d a o.len → occurrence_at c a ≡ Some o
+pub occurrence_same : (c d : Code) (a : ℕ) (o : Found) → occurrence_at d a ≡ Some o
+    → Agree c d a o.len → occurrence_at c a ≡ Some o
 occurrence_same c d a o h same =
     let long = (occurrence_long d a o h).0 in
     let w = occurrence_view d a o h in
@@ -55,43 +60,31 @@ occurrence_same c d a o h same =
       is = w.is;
     })
 
--- fewer bytes contradict less
-pub fits_loses : (c d : Code) (a : ℕ) (check : List ℕ) → Loses c d → fits d a check ≡ true → fits c a check ≡ true
-unfolding fits
-fits_loses c d a [] less h = refl
-fits_loses c d a (x ∷ xs) less h = and_from _ _ (elim (less a) [ inl e ↦ rw e (and_parts _ _ h).0 | inr e ↦ rw e refl ]) (fits_loses c d (suc a) xs less (and_parts _ _ h).1)
-
 -- a byte that is still there is as it was
 pub there_same : (c d : Code) (x : ℕ) → Loses c d → is_there (c x) ≡ true → c x ≡ d x
-there_same c d x less there = elim (less x) [ inl e ↦ e | inr e ↦ absurd (let k : false ≡ true = rw e at there in cc) ]
-
-safe_loses : (entries : Entries) (c d : Code) (o : Found) → Loses c d → is_safe entries d o ≡ true → is_safe entries c o ≡ true
-safe_loses entries c d o less h = elim (cases_Bool (opens_gate entries o.kind (o.at + o.len))) [
-  | inl gate ↦ rw gate refl
-  | inr shut ↦ rw shut (fits_loses c d (o.at + o.len) (check_of o.kind) less (rw shut at h))
-]
-
--- nothing but a safe occurrence is passed over
-cond_safe : (b : Bool) (o : Found) → cond b None (Some o) ≡ None → b ≡ true
-cond_safe true o h = refl
-cond_safe false o h = absurd cc
+there_same c d x less there =
+    elim (less x) [ inl e ↦ e | inr e ↦ absurd (let k : false ≡ true = rw e at there in cc) ]
 
 -- a lost byte makes no unsafe occurrence
-pub unsafe_loses : (entries : Entries) (c d : Code) → Loses c d → IsSafeCode entries d → IsSafeCode entries c
+pub unsafe_loses : (trust : TrustValue) (c d : Code) → Loses c d → IsSafeCode trust d
+    → IsSafeCode trust c
 unfolding unsafe_at
-unsafe_loses entries c d less h a = by_found (occurrence_at c a) refl
+unsafe_loses trust c d less h a = by_found (occurrence_at c a) refl
   where
-    by_found : (o : Option Found) → occurrence_at c a ≡ o → unless_safe entries c o ≡ None
+    by_found : (o : Option Found) → occurrence_at c a ≡ o → unless_safe trust c o ≡ None
     by_found None e = refl
     by_found (Some o) e =
-        let there : occurrence_at d a ≡ Some o = occurrence_same d c a o e (λ x low high. sym (there_same c d x less (occurrence_there c a o e x low high))) in
-        let k : unless_safe entries d (Some o) ≡ None = rw there at (h a) in
-        rw (safe_loses entries c d o less (cond_safe (is_safe entries d o) o k)) refl
+        let there : occurrence_at d a ≡ Some o =
+        occurrence_same d c a o e
+        (λ x low high. sym (there_same c d x less (occurrence_there c a o e x low high))) in
+        let k : unless_safe trust d (Some o) ≡ None = rw there at (h a) in
+        rw (safe_loses trust c d o less (cond_safe (is_safe trust d o) o k)) refl
 
 -- a safe code holds the check of each of its occurrences behind which no entry stands
-pub check_fits : (entries : Entries) (c : Code) (o : Found) → IsSafeCode entries c → occurrence_at c o.at ≡ Some o → opens_gate entries o.kind (o.at + o.len) ≡ false
-    → fits c (o.at + o.len) (check_of o.kind) ≡ true
+pub check_fits : (trust : TrustValue) (c : Code) (o : Found) → IsSafeCode trust c
+    → occurrence_at c o.at ≡ Some o → opens_gate trust o.kind (o.at + o.len) ≡ false
+    → fits c (o.at + o.len) (check_of trust o.kind (o.at + o.len)) ≡ true
 unfolding unsafe_at
-check_fits entries c o h e gate =
-    let k : unless_safe entries c (Some o) ≡ None = rw e at (h o.at) in
-    rw gate at (cond_safe (is_safe entries c o) o k)
+check_fits trust c o h e gate =
+    let k : unless_safe trust c (Some o) ≡ None = rw e at (h o.at) in
+    rw gate at (cond_safe (is_safe trust c o) o k)

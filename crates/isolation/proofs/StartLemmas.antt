@@ -1,16 +1,18 @@
--- What is found without running makes a setup startable, and the pages of trusted data have their key at the start.
+-- What is found without running makes a setup startable, and the pages of trusted data have their
+-- key at the start.
 use Rattle.std.proofs.Common.{◌≡◌, List, ◌<◌, ◌/◌, ◌^◌, ℕ, None, true, ◌∙◌, refl, arith, inl, inr}
 use Rattle.std.proofs.lemmas.Bool.{cases_Bool}
-use Rattle.erim_defs.specs.Image.{IsAccepted, image_entries, image_trust, trusted_code}
-use Rattle.erim_defs.specs.Trust.{in_text_of}
-use Rattle.erim_defs.specs.Start.{fresh, is_keyed, loaded, trusted_unsafe}
-use Rattle.erim_defs.specs.State.{Setup}
+use Rattle.erim_defs.specs.Inspection.Image.{IsAccepted, image_trust, trusted_code}
+use Rattle.erim_defs.specs.Inspection.Trust.{in_text_of}
+use Rattle.erim_defs.specs.Machine.Start.{unpublished_rights, is_keyed, first_state, trusted_unsafe}
+use Rattle.erim_defs.specs.Machine.State.{Setup}
 use Rattle.isolation.proofs.AlwaysLemmas.{first_other}
-use Rattle.erim_defs.specs.Isolation.{IsSafeCode}
+use Rattle.erim_defs.specs.Machine.Isolation.{IsSafeCode}
 use Rattle.isolation.specs.Laws.{IsKeyedPage, KeyLaw, StartLaw}
-use Rattle.isolation.proofs.ImageFacts.{image_low, keyed_is, text_is, text_page}
+use Rattle.erim_defs.proofs.AcceptedLemmas.{image_low, keyed_is, text_is}
 use Rattle.isolation.proofs.StandLemmas.{IsLow}
 use Rattle.isolation.proofs.MemoryLemmas.{first_none}
+use Rattle.erim_defs.proofs.AcceptedLemmas.{text_page}
 
 -- no trusted text lies past user memory
 trusted_low : (image : List ℕ) → IsAccepted image → IsLow (trusted_code image)
@@ -23,18 +25,33 @@ trusted_low image h a high = elim (cases_Bool (in_text_of (image_trust image) a)
       absurd (omega (arith, high, low)))
 ]
 
-trusted_safe : (image : List ℕ) → IsAccepted image → trusted_unsafe image ≡ None → IsSafeCode (image_entries image) (trusted_code image)
+trusted_safe : (image : List ℕ) → IsAccepted image → trusted_unsafe image ≡ None
+    → IsSafeCode (image_trust image) (trusted_code image)
 unfolding trusted_unsafe
-trusted_safe image h none = first_none (image_entries image) (trusted_code image) (trusted_low image h) none
+trusted_safe image h none =
+    first_none (image_trust image) (trusted_code image) (trusted_low image h) none
 
 pub start_law : StartLaw
-start_law setup accepted bytes none room = record { accepted = accepted; bytes = bytes; safe = trusted_safe setup.image accepted none; room = room }
+start_law setup accepted bytes none room =
+    record {
+      accepted = accepted;
+      bytes = bytes;
+      safe = trusted_safe setup.image accepted none;
+      room = room;
+    }
 
-key_law : (setup : Setup) (q : ℕ) → IsAccepted setup.image → is_keyed setup.image q ≡ true → IsKeyedPage setup q
-unfolding loaded
+key_law : (setup : Setup) (q : ℕ) → IsAccepted setup.image → is_keyed setup.image q ≡ true
+    → IsKeyedPage setup q
+unfolding first_state
 key_law setup q accepted keyed =
     let w = keyed_is setup.image q accepted keyed in
-    record { held = fresh w.bits 1; mapped = first_other setup q w.stack ∙ rw (w.text, keyed, w.asked) refl; key = refl; hidden = refl }
+    record {
+      held = unpublished_rights w.bits 1;
+      mapped = first_other setup q w.stack
+          ∙ rw (w.text, keyed, w.asked) refl;
+      key = refl;
+      hidden = refl;
+    }
 
 pub keys_law : KeyLaw
 keys_law setup q h keyed = key_law setup q h.accepted keyed

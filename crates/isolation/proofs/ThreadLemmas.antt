@@ -1,38 +1,47 @@
--- What is said of each thread: over a thread that is set or added, and over code that changes elsewhere.
-use Rattle.std.proofs.Common.{◌≡◌, ◌++◌, ℕ, zero, suc, List, [], ◌∷◌, Option, Some, None, true, false, refl, subst, inl, inr}
+-- What is said of each thread: over a thread that is set or added, and over code that changes
+-- elsewhere.
+use Rattle.std.proofs.Common.{◌≡◌, ◌++◌, ℕ, zero, suc, List, [], ◌∷◌, Option, Some, None, true}
+use Rattle.std.proofs.Common.{false, refl, subst, inl, inr}
 use Rattle.std.specs.Prelude.{slice_set, slice_get}
 use Rattle.erim_defs.specs.declared.found.Found.{Found}
 use Rattle.erim_defs.specs.declared.machine.Thread.{Thread}
-use Rattle.erim_defs.specs.Code.{Code}
-use Rattle.erim_defs.specs.Occurrence.{occurrence_at}
-use Rattle.erim_defs.specs.State.{Setup, is_out, settled}
-use Rattle.erim_defs.specs.Isolation.{Each, Stands}
+use Rattle.erim_defs.specs.Inspection.Code.{Code}
+use Rattle.erim_defs.specs.Inspection.Occurrence.{occurrence_at}
+use Rattle.erim_defs.specs.Machine.State.{with_origin, is_outside}
+use Rattle.erim_defs.specs.Machine.Isolation.{Each, Stands}
 use Rattle.isolation.proofs.SequenceLemmas.{Agree, is_there, occurrence_same, occurrence_there}
+use Rattle.erim_defs.specs.Inspection.Trust.{TrustValue}
 
-pub each_at : (P : Thread → Type 0) (ts : List Thread) (i : ℕ) (t : Thread) → Each P ts → slice_get ts i ≡ Some t → P t
+pub each_at : (P : Thread → Type 0) (ts : List Thread) (i : ℕ) (t : Thread) → Each P ts
+    → slice_get ts i ≡ Some t → P t
 each_at P [] i t h e = absurd cc
 each_at P (x ∷ ts) zero t h e = let k : x ≡ t = cc in subst P k h.0
 each_at P (x ∷ ts) (suc i) t h e = each_at P ts i t h.1 e
 
-pub each_set : (P : Thread → Type 0) (ts : List Thread) (i : ℕ) (t : Thread) → Each P ts → P t → Each P (slice_set ts i t)
+pub each_set : (P : Thread → Type 0) (ts : List Thread) (i : ℕ) (t : Thread) → Each P ts → P t
+    → Each P (slice_set ts i t)
 each_set P [] i t h p = tt
 each_set P (x ∷ ts) zero t h p = (p, h.1)
 each_set P (x ∷ ts) (suc i) t h p = (h.0, each_set P ts i t h.1 p)
 
-pub each_append : (P : Thread → Type 0) (ts : List Thread) (t : Thread) → Each P ts → P t → Each P (ts ++ t ∷ [])
+pub each_append : (P : Thread → Type 0) (ts : List Thread) (t : Thread) → Each P ts → P t
+    → Each P (ts ++ t ∷ [])
 each_append P [] t h p = (p, tt)
 each_append P (x ∷ ts) t h p = (h.0, each_append P ts t h.1 p)
 
-pub each_map : (P Q : Thread → Type 0) (ts : List Thread) → ((t : Thread) → P t → Q t) → Each P ts → Each Q ts
+pub each_map : (P Q : Thread → Type 0) (ts : List Thread) → ((t : Thread) → P t → Q t) → Each P ts
+    → Each Q ts
 each_map P Q [] f h = tt
 each_map P Q (x ∷ ts) f h = (f x h.0, each_map P Q ts f h.1)
 
 -- a thread stands on where the bytes of its origin stay
-pub stands_same : (setup : Setup) (c d : Code) (t : Thread) → ((o : Found) → t.origin ≡ Some o → occurrence_at d o.at ≡ Some o → Agree c d o.at o.len) → Stands setup d t → Stands setup c t
-stands_same setup c d t f (inl n) = inl n
-stands_same setup c d t f (inr w) = inr (record {
+pub stands_same : (trust : TrustValue) (c d : Code) (t : Thread)
+    → ((o : Found) → t.origin ≡ Some o → occurrence_at d o.at ≡ Some o → Agree c d o.at o.len)
+    → Stands trust d t → Stands trust c t
+stands_same trust c d t f (inl n) = inl n
+stands_same trust c d t f (inr w) = inr (record {
   origin = w.origin;
-  place = w.place;
+  position = w.position;
   from = w.from;
   occurs = occurrence_same c d w.origin.at w.origin w.occurs (f w.origin w.from w.occurs);
   gate = w.gate;
@@ -42,12 +51,16 @@ stands_same setup c d t f (inr w) = inr (record {
 
 -- c changes no byte of a live thread's origin
 abbrev pub KeepsOrigins : Code → Code → List Thread → Type 0
-KeepsOrigins c d ts = Each (λ t. t.live ≡ true → (o : Found) → t.origin ≡ Some o → Agree c d o.at o.len) ts
+KeepsOrigins c d ts = Each (λ t. t.live ≡ true → (o : Found) → t.origin ≡ Some o
+    → Agree c d o.at o.len) ts
 
 -- so that each thread stands on
-pub each_kept : (setup : Setup) (c d : Code) (ts : List Thread) → KeepsOrigins c d ts → Each (λ t. t.live ≡ true → Stands setup d t) ts → Each (λ t. t.live ≡ true → Stands setup c t) ts
-each_kept setup c d [] k h = tt
-each_kept setup c d (t ∷ ts) k h = (λ l. stands_same setup c d t (λ o e q. k.0 l o e) (h.0 l), each_kept setup c d ts k.1 h.1)
+pub each_kept : (trust : TrustValue) (c d : Code) (ts : List Thread) → KeepsOrigins c d ts
+    → Each (λ t. t.live ≡ true → Stands trust d t) ts
+    → Each (λ t. t.live ≡ true → Stands trust c t) ts
+each_kept trust c d [] k h = tt
+each_kept trust c d (t ∷ ts) k h =
+    (λ l. stands_same trust c d t (λ o e q. k.0 l o e) (h.0 l), each_kept trust c d ts k.1 h.1)
 
 -- where no byte changes none of an origin does
 pub origins_same : (c d : Code) (ts : List Thread) → ((x : ℕ) → c x ≡ d x) → KeepsOrigins c d ts
@@ -55,11 +68,16 @@ origins_same c d [] same = tt
 origins_same c d (t ∷ ts) same = (λ l o e x low high. same x, origins_same c d ts same)
 
 -- a code that only grows keeps every thread standing
-pub each_grown : (setup : Setup) (c d : Code) (ts : List Thread) → ((x : ℕ) → is_there (d x) ≡ true → c x ≡ d x) → Each (λ t. t.live ≡ true → Stands setup d t) ts → Each (λ t. t.live ≡ true → Stands setup c t) ts
-each_grown setup c d ts g h =
-    each_map (λ t. t.live ≡ true → Stands setup d t) (λ t. t.live ≡ true → Stands setup c t) ts
-    (λ t f l. stands_same setup c d t (λ o e q x low high. g x (occurrence_there d o.at o q x low high)) (f l)) h
+pub each_grown : (trust : TrustValue) (c d : Code) (ts : List Thread)
+    → ((x : ℕ) → is_there (d x) ≡ true → c x ≡ d x)
+    → Each (λ t. t.live ≡ true → Stands trust d t) ts
+    → Each (λ t. t.live ≡ true → Stands trust c t) ts
+each_grown trust c d ts g h =
+    each_map (λ t. t.live ≡ true → Stands trust d t) (λ t. t.live ≡ true → Stands trust c t) ts
+    (λ t f l. stands_same trust c d t
+    (λ o e q x low high. g x (occurrence_there d o.at o q x low high)) (f l)) h
 
 -- a settled thread that isn't out has no origin
-pub settled_origin : (setup : Setup) (made : Option Found) (t : Thread) → is_out setup (settled setup made t) ≡ false → (settled setup made t).origin ≡ None
-settled_origin setup made t h = rw h refl
+pub settled_origin : (trust : TrustValue) (made : Option Found) (t : Thread)
+    → is_outside trust (with_origin trust made t) ≡ false → (with_origin trust made t).origin ≡ None
+settled_origin trust made t h = rw h refl

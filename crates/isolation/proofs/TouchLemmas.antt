@@ -1,5 +1,8 @@
 -- Before an escape, trusted memory is touched by threads that are open in trusted text alone.
-use Rattle.std.proofs.Common.{◌≡◌, ◌≢◌, ◌<◌, ◌≤◌, ◌+◌, ◌*◌, ◌/◌, ◌%◌, ◌^◌, ◌⊎◌, ◌++◌, ◌&&◌, ℕ, zero, suc, length, Option, Some, None, Bool, true, false, cond, eqb, ltb, not, is_some, refl, sym, ap, subst, ◌∙◌, arith, inl, inr, eqb-true, eq-eqb}
+use Rattle.std.proofs.Common.{◌≡◌, ◌≢◌, ◌<◌, ◌≤◌, ◌+◌, ◌*◌, ◌/◌, ◌%◌, ◌^◌, ◌⊎◌, ◌++◌, ◌&&◌, ℕ, zero}
+use Rattle.std.proofs.Common.{suc, length, Option, Some, None, Bool, true, false, cond, eqb, ltb}
+use Rattle.std.proofs.Common.{not, is_some, refl, sym, ap, subst, ◌∙◌, arith, inl, inr, eqb-true}
+use Rattle.std.proofs.Common.{eq-eqb}
 use Rattle.std.proofs.lemmas.Bool.{cases_Bool, eqb-false}
 use Rattle.erim_defs.specs.declared.found.SeqKind.{SeqKind}
 use Rattle.erim_defs.specs.declared.found.SeqKind.TheVariants.{Wrpkru}
@@ -7,19 +10,22 @@ use Rattle.erim_defs.specs.declared.machine.Rights.{Rights}
 use Rattle.erim_defs.specs.declared.machine.Thread.{Thread}
 use Rattle.erim_defs.specs.declared.machine.Access.{Access}
 use Rattle.erim_defs.specs.declared.machine.Access.TheVariants.{Fault}
-use Rattle.erim_defs.specs.declared.machine.Cause.TheVariants.{Unmapped, Read, Write as WriteCause, Key}
+use Rattle.erim_defs.specs.declared.machine.Cause.TheVariants.{Unmapped, Read, Write as WriteCause}
+use Rattle.erim_defs.specs.declared.machine.Cause.TheVariants.{Key}
 use Rattle.erim_defs.specs.declared.insn.Insn.{Insn}
-use Rattle.erim_defs.specs.declared.insn.Fetched.TheVariants.{Runs, Need}
-use Rattle.erim_defs.specs.Pages.{RightsMap, ByteMap, word, taken}
-use Rattle.erim_defs.specs.Access.{Seen, stop, stop_at, stop_by, stop_on, whole, opens, opens_write}
-use Rattle.erim_defs.specs.Image.{image_entries}
-use Rattle.erim_defs.specs.Meaning.{Plan, Ask, Give, Refuse, Call, plan, reg}
-use Rattle.erim_defs.specs.State.{Setup, State, code, in_text, is_out, is_inside}
-use Rattle.erim_defs.specs.Calls.{Change, Reply, Answer, Quit, nothing, reply, write_of}
-use Rattle.erim_defs.specs.Step.{entered, fetched}
-use Rattle.erim_defs.specs.Isolation.{Stands, Place, Leave, PlaceFact}
-use Rattle.isolation.specs.Checks.{place_insn, place_text}
-use Rattle.isolation.specs.Laws.{Reaches, Changes, PageRights, PageBytes, MakesCall, Touches, ByInsn, ByWrite, ByCall, TouchLaw, has_key}
+use Rattle.erim_defs.specs.declared.insn.FetchOutcome.TheVariants.{Runs, Need}
+use Rattle.erim_defs.specs.Machine.Pages.{RightsMap, ByteMap, word, bytes_of_range}
+use Rattle.erim_defs.specs.Machine.Access.{Seen, stop, stop_at, stop_by, stop_on, whole, opens}
+use Rattle.erim_defs.specs.Machine.Access.{opens_write}
+use Rattle.erim_defs.specs.Inspection.Image.{image_trust}
+use Rattle.erim_defs.specs.Machine.Meaning.{Plan, Ask, Give, Refuse, Call, plan, register}
+use Rattle.erim_defs.specs.Machine.State.{Setup, State, code, is_inside, is_outside, trust_of}
+use Rattle.erim_defs.specs.Machine.Calls.{Change, Answer, Quit, CallResult, no_change, write_result}
+use Rattle.erim_defs.specs.Machine.Calls.{call_result}
+use Rattle.erim_defs.specs.Machine.Step.{behind_syscall, fetch}
+use Rattle.erim_defs.specs.Machine.Isolation.{Stands, PositionFact}
+use Rattle.isolation.specs.Laws.{Reaches, Changes, PageRights, PageBytes, MakesCall, Touches}
+use Rattle.isolation.specs.Laws.{ByInsn, ByWrite, ByCall, TouchLaw, has_key}
 use Rattle.isolation.proofs.CheckLemmas.{check_fetched}
 use Rattle.isolation.proofs.MemoryLemmas.{stop_or_none}
 use Rattle.isolation.proofs.StandLemmas.{called_check, is_leave, place_after, place_plan, runs_same}
@@ -28,6 +34,8 @@ use Rattle.isolation.proofs.CallLemmas.{refuse_answer, answer_is}
 use Rattle.isolation.proofs.AlwaysLemmas.{IsGood}
 use Rattle.isolation.proofs.GrammarFacts.{Known, decoder}
 use Rattle.isolation.proofs.RunLemmas.{entered_reg, run_good, stands_now}
+use Rattle.erim_defs.specs.Inspection.Trust.{in_text_of, TrustValue}
+use Rattle.erim_defs.specs.Inspection.Check.{Position, Leave, check_insn, check_bytes}
 
 -- ---- an access that is allowed is open for its key
 
@@ -42,7 +50,8 @@ some_not : (b : Bool) (x y : Access) → cond b (Some x) (Some y) ≡ None → �
 some_not true x y h = absurd cc
 some_not false x y h = absurd cc
 
-on_opens : (r : Rights) (write : Bool) (pkru a : ℕ) → stop_on r write pkru a ≡ None → opens pkru r.key ≡ true
+on_opens : (r : Rights) (write : Bool) (pkru a : ℕ) → stop_on r write pkru a ≡ None
+    → opens pkru r.key ≡ true
 on_opens r true pkru a h = elim (cases_Bool (opens_write pkru r.key)) [
   | inl y ↦ write_opens pkru r.key y
   | inr n ↦ absurd (some_not r.write (Fault Key a) (Fault WriteCause a) (rw n at h))
@@ -52,83 +61,123 @@ on_opens r false pkru a h = elim (cases_Bool (opens pkru r.key)) [
   | inr n ↦ absurd (some_not r.read (Fault Key a) (Fault Read a) (rw n at h))
 ]
 
-by_opens : (o : Option Rights) (write : Bool) (pkru a k : ℕ) → stop_by (Some o) write pkru a ≡ None → has_key o k ≡ true → opens pkru k ≡ true
+by_opens : (o : Option Rights) (write : Bool) (pkru a k : ℕ) → stop_by (Some o) write pkru a ≡ None
+    → has_key o k ≡ true → opens pkru k ≡ true
 by_opens None write pkru a k h e = absurd cc
-by_opens (Some r) write pkru a k h e = let z : r.key ≡ k = eqb-true _ _ e in subst (λ (n : ℕ). opens pkru n ≡ true) z (on_opens r write pkru a h)
+by_opens (Some r) write pkru a k h e = let z : r.key ≡ k = eqb-true _ _ e in
+    subst (λ (n : ℕ). opens pkru n ≡ true) z (on_opens r write pkru a h)
 
-at_opens : (rights : RightsMap) (write : Bool) (pkru a k : ℕ) → stop_at (whole rights) write pkru a ≡ None → has_key (rights (a / 4096)) k ≡ true → opens pkru k ≡ true
+at_opens : (rights : RightsMap) (write : Bool) (pkru a k : ℕ)
+    → stop_at (whole rights) write pkru a ≡ None → has_key (rights (a / 4096)) k ≡ true
+    → opens pkru k ≡ true
 at_opens rights write pkru a k h e = elim (cases_Bool (ltb a (2 ^ 47))) [
   | inl t ↦ by_opens (rights (a / 4096)) write pkru a k (rw t at h) e
   | inr f ↦ absurd (let z : Some (Fault Unmapped a) ≡ None = rw f at h in cc)
 ]
 
-stop_opens : (rights : RightsMap) (write : Bool) (pkru a n x k : ℕ) → stop (whole rights) write pkru a n ≡ None → a ≤ x → x < a + n → has_key (rights (x / 4096)) k ≡ true → opens pkru k ≡ true
+stop_opens : (rights : RightsMap) (write : Bool) (pkru a n x k : ℕ)
+    → stop (whole rights) write pkru a n ≡ None → a ≤ x → x < a + n
+    → has_key (rights (x / 4096)) k ≡ true → opens pkru k ≡ true
 unfolding stop
 stop_opens rights write pkru a zero x k h l m e = absurd (omega arith)
 stop_opens rights write pkru a (suc n) x k h l m e =
-    let p = stop_or_none (stop_at (whole rights) write pkru a) (stop (whole rights) write pkru (suc a) n) h in
+    let p = stop_or_none (stop_at (whole rights) write pkru a)
+    (stop (whole rights) write pkru (suc a) n) h in
     elim (cases_Bool (eqb x a)) [
       | inl t ↦ (let z : x ≡ a = eqb-true _ _ t in at_opens rights write pkru a k p.0 (rw z at e))
-      | inr t ↦ (let z : x ≢ a = eqb-false _ _ t in stop_opens rights write pkru (suc a) n x k p.1 (omega (arith, z)) (omega arith) e)
+      | inr t ↦ (let z : x ≢ a = eqb-false _ _ t in
+          stop_opens rights write pkru (suc a) n x k p.1 (omega (arith, z)) (omega arith) e)
     ]
 
-reaches_opens : (p : Plan) (rights : RightsMap) (bytes : ByteMap) (pkru x k : ℕ) → Reaches p (whole rights) bytes pkru x → has_key (rights (x / 4096)) k ≡ true → opens pkru k ≡ true
-reaches_opens (Ask a n f) rights bytes pkru x k (s, inl (l, m)) e = stop_opens rights false pkru a n x k s l m e
-reaches_opens (Ask a n f) rights bytes pkru x k (s, inr r) e = reaches_opens (f (word bytes a n)) rights bytes pkru x k r e
+reaches_opens : (p : Plan) (rights : RightsMap) (bytes : ByteMap) (pkru x k : ℕ)
+    → Reaches p (whole rights) bytes pkru x → has_key (rights (x / 4096)) k ≡ true
+    → opens pkru k ≡ true
+reaches_opens (Ask a n f) rights bytes pkru x k (s, inl (l, m)) e =
+    stop_opens rights false pkru a n x k s l m e
+reaches_opens (Ask a n f) rights bytes pkru x k (s, inr r) e =
+    reaches_opens (f (word bytes a n)) rights bytes pkru x k r e
 reaches_opens (Give t None) rights bytes pkru x k r e = absurd r
-reaches_opens (Give t (Some w)) rights bytes pkru x k (s, l, m) e = stop_opens rights true pkru w.addr w.count x k s l m e
+reaches_opens (Give t (Some w)) rights bytes pkru x k (s, l, m) e =
+    stop_opens rights true pkru w.addr w.count x k s l m e
 reaches_opens Refuse rights bytes pkru x k r e = absurd r
 reaches_opens Call rights bytes pkru x k r e = absurd r
 
 -- ---- a thread in its check touches nothing
 
-inside_from : (setup : Setup) (t : Thread) → is_out setup t ≡ false → opens t.pkru 1 ≡ true → is_inside setup t ≡ true
-inside_from setup t n o = by_text (in_text setup t.rip) (rw o at n)
+inside_from : (trust : TrustValue) (t : Thread) → is_outside trust t ≡ false → opens t.pkru 1 ≡ true
+    → is_inside trust t ≡ true
+inside_from trust t n o = by_text (in_text_of trust t.rip) (rw o at n)
   where
     by_text : (b : Bool) → not b ≡ false → (opens t.pkru 1 && b) ≡ true
     by_text true h = rw o refl
     by_text false h = absurd cc
 
-give_reaches : (p : Plan) (t : Thread) (seen : Seen) (bytes : ByteMap) (pkru x : ℕ) → p ≡ Give t None → Reaches p seen bytes pkru x → ⊥
-give_reaches p t seen bytes pkru x e r = let P : Plan → Type 0 = λ q. Reaches q seen bytes pkru x in subst P e r
+give_reaches : (p : Plan) (t : Thread) (seen : Seen) (bytes : ByteMap) (pkru x : ℕ)
+    → p ≡ Give t None → Reaches p seen bytes pkru x → ⊥
+give_reaches p t seen bytes pkru x e r = let P : Plan
+    → Type 0 = λ q. Reaches q seen bytes pkru x in subst P e r
 
-leave_reaches : (k : SeqKind) (len : ℕ) (t : Thread) (seen : Seen) (bytes : ByteMap) (pkru x : ℕ) → Reaches (plan (place_insn k Leave) len t) seen bytes pkru x → ⊥
+leave_reaches : (trust : TrustValue) (k : SeqKind) (next len : ℕ) (t : Thread) (seen : Seen)
+    (bytes : ByteMap) (pkru x : ℕ)
+    → Reaches (plan (check_insn trust k next Leave) len t) seen bytes pkru x → ⊥
 unfolding plan
-leave_reaches Wrpkru len t seen bytes pkru x r = r
+leave_reaches trust Wrpkru next len t seen bytes pkru x r = r
 
-place_reaches : (k : SeqKind) (p : Place) (len : ℕ) (t : Thread) (seen : Seen) (bytes : ByteMap) (pkru x : ℕ) → PlaceFact k p t → Reaches (plan (place_insn k p) len t) seen bytes pkru x → ⊥
-place_reaches k p len t seen bytes pkru x f r = elim (is_leave p) [
-  | inl l ↦ leave_reaches k len t seen bytes pkru x (let P : Place → Type 0 = λ q. Reaches (plan (place_insn k q) len t) seen bytes pkru x in subst P l r)
-  | inr n ↦ give_reaches (plan (place_insn k p) len t) (place_after k p len t) seen bytes pkru x (place_plan k p len t n f) r
+place_reaches : (trust : TrustValue) (k : SeqKind) (next : ℕ) (p : Position) (len : ℕ) (t : Thread)
+    (seen : Seen) (bytes : ByteMap) (pkru x : ℕ) → PositionFact trust k next p t
+    → Reaches (plan (check_insn trust k next p) len t) seen bytes pkru x → ⊥
+place_reaches trust k next p len t seen bytes pkru x f r = elim (is_leave p) [
+  | inl l ↦ leave_reaches trust k next len t seen bytes pkru x (let P : Position
+      → Type 0 = λ q. Reaches (plan (check_insn trust k next q) len t) seen bytes pkru x in
+      subst P l r)
+  | inr n ↦ give_reaches (plan (check_insn trust k next p) len t) (place_after trust k next p len t)
+      seen bytes pkru x (place_plan trust k next p len t n f) r
 ]
 
-insn_inside : (s : State) (old : Thread) (insn : Insn) (len skip x : ℕ) → IsGood Known s → Stands s.setup (code s) old
-    → fetched (code s) old.rip ≡ Runs insn len skip → Reaches (plan insn len old) (whole s.rights) s.bytes old.pkru x → opens old.pkru 1 ≡ true → is_inside s.setup old ≡ true
-insn_inside s old insn len skip x g (inl n) f r o = inside_from s.setup old n o
-insn_inside s old insn len skip x g (inr w) f r o = elim (check_fetched decoder (image_entries s.setup.image) (code s) old (code_kind Known s g.kind) g.kept.safe w) [
-  | inr (y, e) ↦ absurd (let k : Need y ≡ Runs insn len skip = sym e ∙ f in cc)
-  | inl e ↦
-      absurd (let k = runs_same insn (place_insn w.origin.kind w.place) len (length (place_text w.origin.kind w.place)) skip 0 (sym f ∙ e) in
-      let q : Reaches (plan (place_insn w.origin.kind w.place) len old) (whole s.rights) s.bytes old.pkru x = subst (λ (i : Insn). Reaches (plan i len old) (whole s.rights) s.bytes old.pkru x) k.0 r in
-      place_reaches w.origin.kind w.place len old (whole s.rights) s.bytes old.pkru x w.fact q)
-]
+insn_inside : (s : State) (old : Thread) (insn : Insn) (len skip x : ℕ) → IsGood Known s
+    → Stands (trust_of s) (code s) old
+    → fetch (code s) old.rip ≡ Runs insn len skip
+    → Reaches (plan insn len old) (whole s.rights) s.bytes old.pkru x → opens old.pkru 1 ≡ true
+    → is_inside (trust_of s) old ≡ true
+insn_inside s old insn len skip x g (inl n) f r o = inside_from (trust_of s) old n o
+insn_inside s old insn len skip x g (inr w) f r o =
+    elim (check_fetched decoder (image_trust s.setup.image) (code s) old (code_kind Known s g.kind)
+    g.kept.safe w) [
+      | inr (y, e) ↦ absurd (let k : Need y ≡ Runs insn len skip = sym e ∙ f in cc)
+      | inl e ↦
+          absurd (let k = runs_same insn
+          (check_insn (trust_of s) w.origin.kind (w.origin.at + w.origin.len) w.position) len
+          (length (check_bytes (trust_of s) w.origin.kind (w.origin.at + w.origin.len) w.position))
+          skip 0 (sym f ∙ e) in
+          let q : Reaches (plan (check_insn (trust_of s) w.origin.kind (w.origin.at + w.origin.len)
+          w.position) len old) (whole s.rights) s.bytes old.pkru x = subst (λ (i :
+          Insn). Reaches (plan i len old) (whole s.rights) s.bytes old.pkru x) k.0 r in
+          place_reaches (trust_of s) w.origin.kind (w.origin.at + w.origin.len) w.position len old
+          (whole s.rights) s.bytes old.pkru x w.fact q)
+    ]
 
-call_inside : (s : State) (old : Thread) (len v : ℕ) (c : Change) → IsGood Known s → Stands s.setup (code s) old → MakesCall s old v c len → opens old.pkru 1 ≡ true → is_inside s.setup old ≡ true
-call_inside s old len v c g (inl n) m o = inside_from s.setup old n o
-call_inside s old len v c g (inr w) m o =
-    absurd (let e = called_check decoder s.setup (code s) old m.insn len m.skip (whole s.rights) s.bytes old.pkru old.rip (code_kind Known s g.kind) g.kept.safe w m.runs m.called in
-    let q = reply_quit s (entered len old) (entered_zero len old ∙ e) in
-    let z : Quit (reg (entered len old) 7 % 256) ≡ Answer v c = sym q ∙ m.answered in
+call_inside : (s : State) (t : ℕ) (old : Thread) (len v : ℕ) (c : Change) → IsGood Known s
+    → Stands (trust_of s) (code s) old → MakesCall s t old v c len → opens old.pkru 1 ≡ true
+    → is_inside (trust_of s) old ≡ true
+call_inside s t old len v c g (inl n) m o = inside_from (trust_of s) old n o
+call_inside s t old len v c g (inr w) m o =
+    absurd (let e = called_check decoder (trust_of s) (code s) old m.insn len m.skip
+    (whole s.rights) s.bytes old.pkru old.rip (code_kind Known s g.kind) g.kept.safe w m.runs
+    m.called in
+    let q = reply_quit s t (behind_syscall len old) (entered_zero len old ∙ e) in
+    let z : Quit (register (behind_syscall len old) 7 % 256) ≡ Answer v c = sym q ∙ m.answered in
     cc)
 
 -- ---- what calls touch: one lemma a call
 
 -- a change of trusted memory is made by an open thread
 abbrev Opens : State → Thread → ℕ → Change → Type 0
-Opens s t q c = Changes s c q → (has_key (s.rights q) 1 ≡ true) ⊎ (has_key (c.rights q) 1 ≡ true) → opens t.pkru 1 ≡ true
+Opens s t q c = Changes s c q → (has_key (s.rights q) 1 ≡ true) ⊎ (has_key (c.rights q) 1 ≡ true)
+    → opens t.pkru 1 ≡ true
 
 -- a change that leaves the pages touches nothing
-left_open : (s : State) (t : Thread) (q : ℕ) (c : Change) → c.rights ≡ s.rights → c.bytes ≡ s.bytes → Opens s t q c
+left_open : (s : State) (t : Thread) (q : ℕ) (c : Change) → c.rights ≡ s.rights → c.bytes ≡ s.bytes
+    → Opens s t q c
 left_open s t q c r b (PageRights n) k = absurd (n (ap (λ (f : RightsMap). f q) r))
 left_open s t q c r b (PageBytes a e n) k = absurd (n (ap (λ (f : ByteMap). f a) b))
 
@@ -138,10 +187,12 @@ record WriteReads (s : State) (t : Thread) (buf n : ℕ) (c : Change) : Type 0 w
   rights : c.rights ≡ s.rights
   bytes : c.bytes ≡ s.bytes
 
-write_reads : (s : State) (t : Thread) (fd buf n v : ℕ) (c : Change) → write_of s t fd buf n ≡ Answer v c → WriteReads s t buf n c
-unfolding write_of
+write_reads : (s : State) (t : Thread) (fd buf n v : ℕ) (c : Change)
+    → write_result s t fd buf n ≡ Answer v c → WriteReads s t buf n c
+unfolding write_result
 write_reads s t fd buf n v c e =
-    let made : Change = (let x = nothing s t in record x { output = s.output ++ taken s.bytes buf n }) in
+    let made : Change = (let x = no_change s t in
+    record x { output = s.output ++ bytes_of_range s.bytes buf n }) in
     let a = refuse_answer (not (eqb (fd % 2 ^ 32) 1)) 9 v _ c e in
     let b = refuse_answer (is_some (stop (whole s.rights) false t.pkru buf n)) 14 v _ c a.1 in
     let d = refuse_answer (ltb 1048576 (length s.output + n)) 28 v (Answer n made) c b.1 in
@@ -156,36 +207,57 @@ write_reads s t fd buf n v c e =
     access_none None h = refl
     access_none (Some x) h = absurd cc
 
-write_open : (s : State) (t : Thread) (fd buf n v q : ℕ) (c : Change) → write_of s t fd buf n ≡ Answer v c → Opens s t q c
-write_open s t fd buf n v q c e = let w = write_reads s t fd buf n v c e in left_open s t q c w.rights w.bytes
+write_open : (s : State) (t : Thread) (fd buf n v q : ℕ) (c : Change)
+    → write_result s t fd buf n ≡ Answer v c → Opens s t q c
+write_open s t fd buf n v q c e = let w = write_reads s t fd buf n v c e in
+    left_open s t q c w.rights w.bytes
 
 -- a row of the table of calls, and the rest of it
-row_open : (s : State) (t : Thread) (q : ℕ) (b : Bool) (x y : Reply) (v : ℕ) (c : Change) → (x ≡ Answer v c → Opens s t q c) → (y ≡ Answer v c → Opens s t q c) → cond b x y ≡ Answer v c → Opens s t q c
+row_open : (s : State) (t : Thread) (q : ℕ) (b : Bool) (x y : CallResult) (v : ℕ) (c : Change)
+    → (x ≡ Answer v c → Opens s t q c) → (y ≡ Answer v c → Opens s t q c) → cond b x y ≡ Answer v c
+    → Opens s t q c
 row_open s t q true x y v c f g h = f h
 row_open s t q false x y v c f g h = g h
 
 -- a row a call: exit_group, write
-reply_open : (s : State) (v q : ℕ) (t : Thread) (c : Change) → reply s t ≡ Answer v c → Opens s t q c
-unfolding reply
-reply_open s v q t c e =
-    row_open s t q (eqb (reg t 0) 231) _ _ v c (λ k. absurd cc)
-    (row_open s t q (eqb (reg t 0) 1) _ _ v c (write_open s t (reg t 7) (reg t 6) (reg t 2) v q c) (λ k. absurd cc)) e
+reply_open : (s : State) (v q number : ℕ) (t : Thread) (c : Change)
+    → call_result s number t ≡ Answer v c → Opens s t q c
+unfolding call_result
+reply_open s v q number t c e =
+    row_open s t q (eqb (register t 0) 231) _ _ v c (λ k. absurd cc)
+    (row_open s t q (eqb (register t 0) 1) _ _ v c
+    (write_open s t (register t 7) (register t 6) (register t 2) v q c)
+    (λ k. absurd cc)) e
 
-reply_write : (s : State) (t : Thread) → reg t 0 ≡ 1 → reply s t ≡ write_of s t (reg t 7) (reg t 6) (reg t 2)
-unfolding reply
-reply_write s t e = rw e refl
+reply_write : (s : State) (number : ℕ) (t : Thread) → register t 0 ≡ 1
+    → call_result s number t ≡ write_result s t (register t 7) (register t 6) (register t 2)
+unfolding call_result
+reply_write s number t e = rw e refl
 
 -- ---- all of it
 
-touch_by : (s : State) (old : Thread) → IsGood Known s → Stands s.setup (code s) old → Touches s old → is_inside s.setup old ≡ true
-touch_by s old g st (ByInsn insn len skip x f r k) = insn_inside s old insn len skip x g st f r (reaches_opens (plan insn len old) s.rights s.bytes old.pkru x 1 r k)
-touch_by s old g st (ByWrite len v x c m one l h k) =
-    let at : reg (entered len old) 6 ≡ reg old 6 = entered_reg len 6 old (omega arith) (omega arith) in
-    let count : reg (entered len old) 2 ≡ reg old 2 = entered_reg len 2 old (omega arith) (omega arith) in
-    let z : write_of s (entered len old) (reg (entered len old) 7) (reg (entered len old) 6) (reg (entered len old) 2) ≡ Answer v c = sym (reply_write s (entered len old) (entered_zero len old ∙ one)) ∙ m.answered in
-    let w = write_reads s (entered len old) (reg (entered len old) 7) (reg (entered len old) 6) (reg (entered len old) 2) v c z in
-    call_inside s old len v c g st m (stop_opens s.rights false old.pkru (reg (entered len old) 6) (reg (entered len old) 2) x 1 w.allowed (omega (arith, at, l)) (omega (arith, at, count, h)) k)
-touch_by s old g st (ByCall len v q c m ch k) = call_inside s old len v c g st m (reply_open s v q (entered len old) c m.answered ch k)
+touch_by : (s : State) (t : ℕ) (old : Thread) → IsGood Known s → Stands (trust_of s) (code s) old
+    → Touches s t old → is_inside (trust_of s) old ≡ true
+touch_by s t old g st (ByInsn insn len skip x f r k) =
+    insn_inside s old insn len skip x g st f r
+    (reaches_opens (plan insn len old) s.rights s.bytes old.pkru x 1 r k)
+touch_by s t old g st (ByWrite len v x c m one l h k) =
+    let at : register (behind_syscall len old) 6 ≡ register old 6 =
+    entered_reg len 6 old (omega arith) (omega arith) in
+    let count : register (behind_syscall len old) 2 ≡ register old 2 =
+    entered_reg len 2 old (omega arith) (omega arith) in
+    let z : write_result s (behind_syscall len old) (register (behind_syscall len old) 7)
+    (register (behind_syscall len old) 6) (register (behind_syscall len old) 2) ≡ Answer v c =
+    sym (reply_write s t (behind_syscall len old) (entered_zero len old ∙ one)) ∙ m.answered in
+    let w = write_reads s (behind_syscall len old) (register (behind_syscall len old) 7)
+    (register (behind_syscall len old) 6) (register (behind_syscall len old) 2) v c z in
+    call_inside s t old len v c g st m
+    (stop_opens s.rights false old.pkru (register (behind_syscall len old) 6)
+    (register (behind_syscall len old) 2) x 1 w.allowed (omega (arith, at, l))
+    (omega (arith, at, count, h)) k)
+touch_by s t old g st (ByCall len v q c m ch k) =
+    call_inside s t old len v c g st m (reply_open s v q t (behind_syscall len old) c m.answered ch
+    k)
 
 pub touch_law : TouchLaw
-touch_law s t old r e touch = touch_by s old (run_good s t old r) (stands_now s t old r e) touch
+touch_law s t old r e touch = touch_by s t old (run_good s t old r) (stands_now s t old r e) touch

@@ -1,5 +1,6 @@
 -- Laws of every run beside the isolation invariant. Own, after ERIM.
-use Rattle.std.specs.Prelude.{◌≡◌, ◌≢◌, ◌⊎◌, ◌↔◌, ◌<◌, ◌≤◌, ◌+◌, ◌/◌, ◌%◌, ◌==◌, ℕ, Bool, true, false, Option, Some, None, List, [], ◌∷◌, slice_get}
+use Rattle.std.specs.Prelude.{◌≡◌, ◌≢◌, ◌⊎◌, ◌↔◌, ◌<◌, ◌≤◌, ◌+◌, ◌/◌, ◌%◌, ◌==◌, ℕ, Bool, true}
+use Rattle.std.specs.Prelude.{false, Option, Some, None, List, [], ◌∷◌, slice_get}
 use Rattle.erim_defs.specs.declared.machine.Thread.{Thread}
 use Rattle.erim_defs.specs.declared.machine.Rights.{Rights}
 use Rattle.erim_defs.specs.declared.machine.Entry.{Entry}
@@ -7,38 +8,45 @@ use Rattle.erim_defs.specs.declared.machine.End.TheVariants.{Exit, Refused}
 use Rattle.erim_defs.specs.declared.found.Found.{Found}
 use Rattle.erim_defs.specs.declared.insn.Insn.{Insn}
 use Rattle.erim_defs.specs.declared.insn.Insn.TheVariants.{Syscall}
-use Rattle.erim_defs.specs.declared.insn.Fetched.TheVariants.{Runs, Need}
-use Rattle.erim_defs.specs.Pages.{ByteMap, word, is_published, code_with}
-use Rattle.erim_defs.specs.Access.{Seen, stop, whole, opens}
-use Rattle.erim_defs.specs.Occurrence.{occurrence_at}
-use Rattle.erim_defs.specs.Safe.{opens_gate, fits, check_of}
-use Rattle.erim_defs.specs.Unsafe.{unsafe_list}
-use Rattle.erim_defs.specs.Image.{IsAccepted, image_entries}
-use Rattle.erim_defs.specs.Parts.{AreBytes}
-use Rattle.erim_defs.specs.Meaning.{Plan, Ask, Give, Refuse, Call, Called, does, plan, reg}
-use Rattle.erim_defs.specs.State.{Setup, State, code, is_out, is_inside}
-use Rattle.erim_defs.specs.Calls.{Change, Answer, reply}
-use Rattle.erim_defs.specs.Step.{asks_exec, entered, fetched, made_by, step}
-use Rattle.erim_defs.specs.Start.{frames_needed, is_keyed, loaded, trusted_unsafe}
-use Rattle.erim_defs.specs.Replay.{replay}
-use Rattle.erim_defs.specs.Isolation.{IsStartable, IsInCheck, Leave}
-use Rattle.isolation.specs.Checks.{place_insn}
+use Rattle.erim_defs.specs.declared.insn.FetchOutcome.TheVariants.{Runs, Need}
+use Rattle.erim_defs.specs.Machine.Pages.{ByteMap, word, is_published, code_with, asks_exec}
+use Rattle.erim_defs.specs.Machine.Access.{Seen, stop, whole, opens}
+use Rattle.erim_defs.specs.Inspection.Occurrence.{occurrence_at}
+use Rattle.erim_defs.specs.Inspection.Safe.{opens_gate, fits}
+use Rattle.erim_defs.specs.Inspection.Unsafe.{unsafe_list}
+use Rattle.erim_defs.specs.Inspection.Image.{IsAccepted}
+use Rattle.erim_defs.specs.Encoding.Parts.{AreBytes}
+use Rattle.erim_defs.specs.Machine.Meaning.{Plan, Ask, Give, Refuse, Call, Called, effect, plan}
+use Rattle.erim_defs.specs.Machine.Meaning.{register}
+use Rattle.erim_defs.specs.Machine.State.{Setup, State, code, is_inside, is_outside, trust_of}
+use Rattle.erim_defs.specs.Machine.State.{is_open}
+use Rattle.erim_defs.specs.Machine.Calls.{Change, Answer, call_result}
+use Rattle.erim_defs.specs.Machine.Step.{step, sequence_of, behind_syscall, fetch}
+use Rattle.erim_defs.specs.Machine.Start.{frames_needed, is_keyed, first_state, trusted_unsafe}
+use Rattle.erim_defs.specs.Machine.Replay.{replay}
+use Rattle.erim_defs.specs.Machine.Isolation.{IsStartable, IsInCheck}
+use Rattle.erim_defs.specs.Inspection.Check.{check_of, Leave, check_insn}
 
 -- ---- what can be started
 
--- what is found without running is enough: an accepted image of bytes, nothing unsafe in its trusted text by itself, frames
+-- what is found without running is enough: an accepted image of bytes, nothing unsafe in its
+-- trusted text by itself, frames
 abbrev pub StartLaw : Type 0
-StartLaw = (setup : Setup) → IsAccepted setup.image → AreBytes setup.image → trusted_unsafe setup.image ≡ None → frames_needed setup.image ≤ setup.frames → IsStartable setup
+StartLaw = (setup : Setup) → IsAccepted setup.image → AreBytes setup.image
+    → trusted_unsafe setup.image ≡ None → frames_needed setup.image ≤ setup.frames
+    → IsStartable setup
 
--- at the start the pages of trusted data and of trusted heaps are mapped with the trusted key 1, and aren't published
+-- at the start the pages of trusted data and of trusted heaps are mapped with the trusted key 1,
+-- and aren't published
 pub record IsKeyedPage (setup : Setup) (q : ℕ) : Type 0 where
   pub held : Rights
-  pub mapped : (loaded setup).rights q ≡ Some held
+  pub mapped : (first_state setup).rights q ≡ Some held
   pub key : held.key ≡ 1
   pub hidden : held.exec ≡ false
 
 abbrev pub KeyLaw : Type 0
-KeyLaw = (setup : Setup) (q : ℕ) → IsStartable setup → is_keyed setup.image q ≡ true → IsKeyedPage setup q
+KeyLaw = (setup : Setup) (q : ℕ) → IsStartable setup → is_keyed setup.image q ≡ true
+    → IsKeyedPage setup q
 
 -- ---- a thread that can step
 
@@ -57,15 +65,20 @@ pub record CanStep (s : State) (t : ℕ) (old : Thread) : Type 0 where
 -- a step of thread t from old
 pub data ChecksOn (s new : State) (t : ℕ) (old : Thread) : Type 0 where
   -- an exec fault
-  Faults : (x : ℕ) → fetched (code s) old.rip ≡ Need x → ChecksOn s new t old
+  Faults : (x : ℕ) → fetch (code s) old.rip ≡ Need x → ChecksOn s new t old
   -- the instruction of its check where it stands, and on to the next
-  GoesOn : (check : IsInCheck (image_entries s.setup.image) (code s) old) (len : ℕ) (after : Thread) → check.place ≢ Leave
-      → fetched (code s) old.rip ≡ Runs (place_insn check.origin.kind check.place) len 0 → slice_get new.threads t ≡ Some after → after.rip ≡ old.rip + len → ChecksOn s new t old
+  GoesOn : (check : IsInCheck (trust_of s) (code s) old) (len : ℕ) (after : Thread)
+      → check.position ≢ Leave
+      → fetch (code s) old.rip
+      ≡ Runs (check_insn (trust_of s) check.origin.kind (check.origin.at + check.origin.len)
+      check.position) len 0 → slice_get new.threads t ≡ Some after → after.rip ≡ old.rip + len → ChecksOn s new t old
   -- exit_group, the last one
-  Ends : (len : ℕ) → fetched (code s) old.rip ≡ Runs Syscall len 0 → reg old 0 ≡ 231 → new.end ≡ Some (Exit (reg old 7 % 256)) → ChecksOn s new t old
+  Ends : (len : ℕ) → fetch (code s) old.rip ≡ Runs Syscall len 0 → register old 0 ≡ 231
+      → new.end ≡ Some (Exit (register old 7 % 256)) → ChecksOn s new t old
 
 abbrev pub ChecksLaw : Type 0
-ChecksLaw = (s new : State) (t : ℕ) (old : Thread) → CanStep s t old → s.escape ≡ None → is_out s.setup old ≡ true → step t s ≡ Some new → ChecksOn s new t old
+ChecksLaw = (s new : State) (t : ℕ) (old : Thread) → CanStep s t old → s.escape ≡ None
+    → is_outside (trust_of s) old ≡ true → step t s ≡ Some new → ChecksOn s new t old
 
 -- ---- who touches trusted memory
 
@@ -76,9 +89,11 @@ has_key (Some r) k = r.key == k
 
 -- an instruction reads or writes the byte at x
 abbrev pub Reaches : Plan → Seen → ByteMap → ℕ → ℕ → Type 0
-Reaches (Ask a n k) seen bytes pkru x = (stop seen false pkru a n ≡ None) × (((a ≤ x) × (x < a + n)) ⊎ Reaches (k (word bytes a n)) seen bytes pkru x)
+Reaches (Ask a n k) seen bytes pkru x = (stop seen false pkru a n ≡ None)
+    × (((a ≤ x) × (x < a + n)) ⊎ Reaches (k (word bytes a n)) seen bytes pkru x)
 Reaches (Give t None) seen bytes pkru x = ⊥
-Reaches (Give t (Some w)) seen bytes pkru x = (stop seen true pkru w.addr w.count ≡ None) × (w.addr ≤ x) × (x < w.addr + w.count)
+Reaches (Give t (Some w)) seen bytes pkru x = (stop seen true pkru w.addr w.count ≡ None)
+    × (w.addr ≤ x) × (x < w.addr + w.count)
 Reaches Refuse seen bytes pkru x = ⊥
 Reaches Call seen bytes pkru x = ⊥
 
@@ -88,22 +103,31 @@ pub data Changes (s : State) (c : Change) (q : ℕ) : Type 0 where
   PageBytes : (a : ℕ) → a / 4096 ≡ q → c.bytes a ≢ s.bytes a → Changes s c q
 
 -- the instruction at which a thread stands is a call that isn't refused
-pub record MakesCall (s : State) (old : Thread) (value : ℕ) (change : Change) (len : ℕ) : Type 0 where
+pub record MakesCall (s : State) (t : ℕ) (old : Thread) (value : ℕ) (change : Change) (len : ℕ) :
+    Type 0 where
   pub insn : Insn
   pub skip : ℕ
-  pub runs : fetched (code s) old.rip ≡ Runs insn len skip
-  pub called : does (plan insn len old) (whole s.rights) s.bytes old.pkru old.rip ≡ Called
-  pub answered : reply s (entered len old) ≡ Answer value change
+  pub runs : fetch (code s) old.rip ≡ Runs insn len skip
+  pub called : effect (plan insn len old) (whole s.rights) s.bytes old.pkru old.rip ≡ Called
+  pub answered : call_result s t (behind_syscall len old) ≡ Answer value change
 
--- a step touches memory with the trusted key 1: by its instruction, by what write reads, by what a call changes
-pub data Touches (s : State) (old : Thread) : Type 0 where
-  ByInsn : (insn : Insn) (len skip x : ℕ) → fetched (code s) old.rip ≡ Runs insn len skip → Reaches (plan insn len old) (whole s.rights) s.bytes old.pkru x → has_key (s.rights (x / 4096)) 1 ≡ true → Touches s old
-  ByWrite : (len value x : ℕ) (c : Change) → MakesCall s old value c len → reg old 0 ≡ 1 → reg old 6 ≤ x → x < reg old 6 + reg old 2 → has_key (s.rights (x / 4096)) 1 ≡ true → Touches s old
-  ByCall : (len value q : ℕ) (c : Change) → MakesCall s old value c len → Changes s c q → (has_key (s.rights q) 1 ≡ true) ⊎ (has_key (c.rights q) 1 ≡ true) → Touches s old
+-- a step touches memory with the trusted key 1: by its instruction, by what write reads, by what a
+-- call changes
+pub data Touches (s : State) (t : ℕ) (old : Thread) : Type 0 where
+  ByInsn : (insn : Insn) (len skip x : ℕ) → fetch (code s) old.rip ≡ Runs insn len skip
+      → Reaches (plan insn len old) (whole s.rights) s.bytes old.pkru x
+      → has_key (s.rights (x / 4096)) 1 ≡ true → Touches s t old
+  ByWrite : (len value x : ℕ) (c : Change) → MakesCall s t old value c len → register old 0 ≡ 1
+      → register old 6 ≤ x → x < register old 6 + register old 2
+      → has_key (s.rights (x / 4096)) 1 ≡ true
+      → Touches s t old
+  ByCall : (len value q : ℕ) (c : Change) → MakesCall s t old value c len → Changes s c q
+      → (has_key (s.rights q) 1 ≡ true) ⊎ (has_key (c.rights q) 1 ≡ true) → Touches s t old
 
 -- before an escape, a thread that is open in trusted text alone
 abbrev pub TouchLaw : Type 0
-TouchLaw = (s : State) (t : ℕ) (old : Thread) → CanStep s t old → s.escape ≡ None → Touches s old → is_inside s.setup old ≡ true
+TouchLaw = (s : State) (t : ℕ) (old : Thread) → CanStep s t old → s.escape ≡ None → Touches s t old
+    → is_inside (trust_of s) old ≡ true
 
 -- ---- how a thread opens
 
@@ -114,44 +138,51 @@ pub record Opened (s : State) (t i : ℕ) (a b : Thread) : Type 0 where
   pub len : ℕ
   pub skip : ℕ
   pub origin : Found
-  pub runs : fetched (code s) a.rip ≡ Runs insn len skip
-  pub made : made_by insn a.rip len skip ≡ Some origin
+  pub runs : fetch (code s) a.rip ≡ Runs insn len skip
+  pub made : sequence_of (record { insn = insn; len = len; skip = skip }) a.rip ≡ Some origin
   pub occurs : occurrence_at (code s) origin.at ≡ Some origin
   pub rip : b.rip ≡ origin.at + origin.len
   -- an entry follows, or nothing contradicts the check
-  pub behind : (opens_gate (image_entries s.setup.image) origin.kind b.rip ≡ true) ⊎ (fits (code s) b.rip (check_of origin.kind) ≡ true)
+  pub behind : (opens_gate (trust_of s) origin.kind b.rip ≡ true)
+      ⊎ (fits (code s) b.rip (check_of (trust_of s) origin.kind b.rip) ≡ true)
 
 abbrev pub OpenLaw : Type 0
-OpenLaw = (s new : State) (t i : ℕ) (a b old : Thread) → CanStep s t old → step t s ≡ Some new → slice_get s.threads i ≡ Some a → slice_get new.threads i ≡ Some b
-    → opens a.pkru 1 ≡ false → opens b.pkru 1 ≡ true → Opened s t i a b
+OpenLaw = (s new : State) (t i : ℕ) (a b old : Thread) → CanStep s t old → step t s ≡ Some new
+    → slice_get s.threads i ≡ Some a → slice_get new.threads i ≡ Some b
+    → is_open (trust_of s) a.pkru ≡ false → is_open (trust_of s) b.pkru ≡ true → Opened s t i a b
 
 -- ---- how a page is published
 
--- an exec fault on a mapped page q that asks PROT_EXEC, with nothing unsafe in the code with that page
+-- an exec fault on a mapped page q that asks PROT_EXEC, with nothing unsafe in the code with that
+-- page
 pub record IsPublication (s : State) (q : ℕ) (old : Thread) : Type 0 where
   pub x : ℕ
   pub rights : Rights
-  pub needs : fetched (code s) old.rip ≡ Need x
+  pub needs : fetch (code s) old.rip ≡ Need x
   pub page : x / 4096 ≡ q
   pub mapped : s.rights q ≡ Some rights
   pub asks : asks_exec rights.asked ≡ true
-  pub safe : unsafe_list (image_entries s.setup.image) (code_with s.rights s.bytes q) ≡ []
+  pub safe : unsafe_list (trust_of s) (code_with s.rights s.bytes q) ≡ []
 
 -- a page that wasn't published is so afterwards exactly then
 abbrev pub PublishLaw : Type 0
-PublishLaw = (s new : State) (t q : ℕ) (old : Thread) → CanStep s t old → step t s ≡ Some new → is_published (s.rights q) ≡ false → ((is_published (new.rights q) ≡ true) ↔ IsPublication s q old)
+PublishLaw = (s new : State) (t q : ℕ) (old : Thread) → CanStep s t old → step t s ≡ Some new
+    → is_published (s.rights q) ≡ false
+    → ((is_published (new.rights q) ≡ true) ↔ IsPublication s q old)
 
 -- the same, but with found the first that is unsafe in that code
 pub record IsRefusal (s : State) (q : ℕ) (found : Found) (old : Thread) : Type 0 where
   pub x : ℕ
   pub rights : Rights
   pub rest : List Found
-  pub needs : fetched (code s) old.rip ≡ Need x
+  pub needs : fetch (code s) old.rip ≡ Need x
   pub page : x / 4096 ≡ q
   pub mapped : s.rights q ≡ Some rights
   pub asks : asks_exec rights.asked ≡ true
-  pub unsafe : unsafe_list (image_entries s.setup.image) (code_with s.rights s.bytes q) ≡ found ∷ rest
+  pub unsafe : unsafe_list (trust_of s) (code_with s.rights s.bytes q) ≡ found ∷ rest
 
 -- a run ends as refused exactly so
 abbrev pub RefuseLaw : Type 0
-RefuseLaw = (s new : State) (t u q : ℕ) (found : Found) (old : Thread) → CanStep s t old → step t s ≡ Some new → ((new.end ≡ Some (Refused q found u)) ↔ ((u ≡ t) × IsRefusal s q found old))
+RefuseLaw = (s new : State) (t u q : ℕ) (found : Found) (old : Thread) → CanStep s t old
+    → step t s ≡ Some new → ((new.end ≡ Some (Refused q found u)) ↔ ((u ≡ t)
+    × IsRefusal s q found old))

@@ -1,9 +1,17 @@
-//! The isolation invariant of the machine, and laws of every run beside it. Each function here is a law: it does
-//! nothing, and its contract is proved.
+//! The isolation invariant of the machine, and laws of every run beside it.
+//!
+//! Each function here is a law: it does nothing, and its contract is proved. `always_kept` says
+//! that every state of every run of an image that can be started keeps `IsKept` of `erim_defs`; the
+//! others say what that gives until the first escape: where an open thread stands, that only
+//! trusted text touches pages with the trusted key, which pages are published, and which are
+//! refused. `erim_process` carries them into the contract of `Process::setup`, and `erim_plain`
+//! into the clause of `run`. They rest on two laws of decoding, of `x86_decode`: one encoding,
+//! prefix-free.
 #![tactic(auto)]
 
-ghost use Rattle.erim_defs.specs.Isolation.{AlwaysKept};
-ghost use Rattle.isolation.specs.Laws.{ChecksLaw, KeyLaw, OpenLaw, PublishLaw, RefuseLaw, StartLaw, TouchLaw};
+ghost use Rattle.erim_defs.specs.Machine.Isolation.{AlwaysKept};
+ghost use Rattle.isolation.specs.Laws.{ChecksLaw, KeyLaw, OpenLaw, PublishLaw, RefuseLaw, StartLaw};
+ghost use Rattle.isolation.specs.Laws.{TouchLaw};
 
 /// The isolation invariant holds in every state of every run.
 pub fn always_kept()
@@ -20,8 +28,8 @@ pub fn keyed()
     ensures { KeyLaw }
 {}
 
-/// Before an escape, each step of an open thread outside trusted text is an exec fault, the next instruction of its
-/// check, or the end of the process.
+/// Before an escape, each step of an open thread outside trusted text is an exec fault, the next
+/// instruction of its check, or the end of the process.
 pub fn checks_on()
     ensures { ChecksLaw }
 {}
@@ -31,18 +39,20 @@ pub fn touched()
     ensures { TouchLaw }
 {}
 
-/// A thread opens only by a WRPKRU that occurs in the code, and then stands at an entry or before the check.
+/// A thread opens only by a WRPKRU that occurs in the code, and then stands at an entry or before
+/// the check.
 pub fn opened()
     ensures { OpenLaw }
 {}
 
-/// A page becomes published exactly at an exec fault on a page that asks to be executed, where nothing unsafe stands in
-/// the code with that page.
+/// A page becomes published exactly at an exec fault on a page that asks to be executed, where
+/// nothing unsafe stands in the code with that page.
 pub fn publishes()
     ensures { PublishLaw }
 {}
 
-/// A run ends as refused exactly at such an exec fault, for the first that is unsafe in the code with that page.
+/// A run ends as refused exactly at such an exec fault, for the first that is unsafe in the code
+/// with that page.
 pub fn refuses()
     ensures { RefuseLaw }
 {}

@@ -1,5 +1,7 @@
 -- The least number of the pages of a list.
-use Rattle.std.proofs.Common.{◌≡◌, ℕ, zero, suc, length, drop, ◌<◌, ◌≤◌, ◌⊎◌, List, [], ◌∷◌, Option, Some, None, IsSome, true, false, ltb, ltb-true, ltb-false, eqb, eqb-true, refl, sym, ap, ◌∙◌, arith, inl, inr}
+use Rattle.std.proofs.Common.{◌≡◌, ℕ, zero, suc, length, drop, ◌<◌, ◌≤◌, ◌⊎◌, List, [], ◌∷◌, Option}
+use Rattle.std.proofs.Common.{Some, None, IsSome, true, false, ltb, ltb-true, ltb-false, eqb}
+use Rattle.std.proofs.Common.{eqb-true, refl, sym, ap, ◌∙◌, arith, inl, inr}
 use Rattle.std.proofs.lemmas.Bool.{cases_Bool}
 use Rattle.std.proofs.lemmas.Bool.Decides.{nat_tests}
 use Rattle.page_store.specs.declared.page_list.Page.{Page}
@@ -21,7 +23,8 @@ lesser_of n (Some m) p h = elim (cases_Bool (ltb n m)) [
 ]
 
 -- what nearer gives is the least so far or the number
-nearer_of : (n from : ℕ) (least : Option ℕ) (p : ℕ) → nearer n from least ≡ Some p → (least ≡ Some p) ⊎ ((from ≤ p) × (n ≡ p))
+nearer_of : (n from : ℕ) (least : Option ℕ) (p : ℕ) → nearer n from least ≡ Some p
+    → (least ≡ Some p) ⊎ ((from ≤ p) × (n ≡ p))
 nearer_of n from least p h = elim (cases_Bool (ltb n from)) [
   | inl t ↦ inl (rw t at h)
   | inr f ↦ (let above : from ≤ n = ltb-false _ _ f in
@@ -47,7 +50,11 @@ nearest_of [] from least p h = inl h
 nearest_of (x ∷ ps) from least p h = elim (nearest_of ps from (nearer x.number from least) p h) [
   | inl e ↦ elim (nearer_of x.number from least p e) [
     | inl s ↦ inl s
-    | inr s ↦ inr (s.0, (let t : eqb x.number p ≡ true = grind (arith, nat_tests, s.1) in rw t refl))
+    | inr s ↦ inr (
+      s.0,
+      (let t : eqb x.number p ≡ true = grind (arith, nat_tests, s.1) in
+          rw t refl),
+    )
   ]
   | inr s ↦ inr (s.0, elim (cases_Bool (eqb x.number p)) [ inl t ↦ rw t refl | inr f ↦ rw f s.1 ])
 ]
@@ -56,18 +63,28 @@ nearest_le : (ps : List Page) (from m : ℕ) → (p : ℕ) × (nearest ps from (
 nearest_le [] from m = (m, refl, omega arith)
 nearest_le (x ∷ ps) from m =
     let n = nearer_le x.number from m in
-    let rest = nearest_le ps from n.0 in
-    (rest.0, ap (nearest ps from) n.1 ∙ rest.1, (let a = n.2 in let b = rest.2 in omega (arith, a, b)))
+    let rest = nearest_le ps from n.0 in (
+      rest.0,
+      ap (nearest ps from) n.1 ∙ rest.1,
+      (let a = n.2 in let b = rest.2 in
+          omega (arith, a, b)),
+    )
 
 -- no mapped page is nearer
-nearest_least : (ps : List Page) (from : ℕ) (least : Option ℕ) (q : ℕ) (d : Page) → from ≤ q → find_page ps q ≡ Some d
+nearest_least : (ps : List Page) (from : ℕ) (least : Option ℕ) (q : ℕ) (d : Page) → from ≤ q
+    → find_page ps q ≡ Some d
     → (p : ℕ) × (nearest ps from least ≡ Some p) × (p ≤ q)
 nearest_least [] from least q d l h = absurd (cc)
 nearest_least (x ∷ ps) from least q d l h = elim (cases_Bool (eqb x.number q)) [
   | inl t ↦ (let same : x.number ≡ q = eqb-true _ _ t in
       let f : ltb x.number from ≡ false = grind (arith, nat_tests) in
-      let rest = nearest_le ps from (lesser x.number least) in
-      (rest.0, ap (nearest ps from) (rw f refl) ∙ rest.1, (let a = rest.2 in let b = lesser_le x.number least in omega (arith, a, b, same))))
+      let rest = nearest_le ps from (lesser x.number least) in (
+        rest.0,
+        ap (nearest ps from) (rw f refl)
+            ∙ rest.1,
+        (let a = rest.2 in let b = lesser_le x.number least in
+            omega (arith, a, b, same)),
+      ))
   | inr f ↦ nearest_least ps from (nearer x.number from least) q d l (rw f at h)
 ]
 
@@ -75,7 +92,8 @@ none_unless : (o : Option Page) → ((d : Page) → o ≡ Some d → ⊥) → ri
 none_unless None h = refl
 none_unless (Some d) h = absurd (h d refl)
 
-is_next : (ps : List Page) (from : ℕ) (r : Option ℕ) → nearest ps from None ≡ r → IsNextPage (list_rights ps) from r
+is_next : (ps : List Page) (from : ℕ) (r : Option ℕ) → nearest ps from None ≡ r
+    → IsNextPage (list_rights ps) from r
 is_next ps from None e = λ q l. none_unless (find_page ps q) (λ d h.
     let n = nearest_least ps from None q d l h in let k : Some n.0 ≡ None = sym n.1 ∙ e in cc)
 is_next ps from (Some p) e = elim (nearest_of ps from None p e) [
@@ -89,13 +107,15 @@ is_next ps from (Some p) e = elim (nearest_of ps from None p e) [
   )
 ]
 
-nearest_past : (ps : List Page) (from : ℕ) (least : Option ℕ) (i : ℕ) → length ps ≤ i → nearest (drop i ps) from least ≡ least
+nearest_past : (ps : List Page) (from : ℕ) (least : Option ℕ) (i : ℕ) → length ps ≤ i
+    → nearest (drop i ps) from least ≡ least
 nearest_past [] from least zero l = refl
 nearest_past [] from least (suc i) l = refl
 nearest_past (p ∷ ps) from least zero l = absurd (omega arith)
 nearest_past (p ∷ ps) from least (suc i) l = nearest_past ps from least i (omega arith)
 
 -- at the end of the list the least so far is the next page
-pub next_at_end : (ps : List Page) (from : ℕ) (least : Option ℕ) (i : ℕ) → length ps ≤ i → nearest (drop i ps) from least ≡ nearest ps from None
+pub next_at_end : (ps : List Page) (from : ℕ) (least : Option ℕ) (i : ℕ) → length ps ≤ i
+    → nearest (drop i ps) from least ≡ nearest ps from None
     → IsNextPage (list_rights ps) from least
 next_at_end ps from least i l e = is_next ps from least (sym e ∙ nearest_past ps from least i l)

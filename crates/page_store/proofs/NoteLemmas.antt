@@ -1,6 +1,6 @@
 -- A memory that keeps no notes.
 use Rattle.std.proofs.Common.{ℕ, List, [], ◌∷◌, true, refl}
-use Rattle.erim_defs.specs.Access.{Seen}
+use Rattle.erim_defs.specs.Machine.Access.{Seen}
 use Rattle.page_store.specs.Notes.{Notes, AllHeldNoted}
 
 all_noted : (seen : Seen) (xs : List ℕ) → AllHeldNoted seen (λ _. true) xs

@@ -1,9 +1,11 @@
 -- What the calls of a memory answer. Own.
-use Rattle.std.specs.Prelude.{◌≡◌, ℕ, ◌+◌, ◌/◌, ◌%◌, true, false, ◌<◌, ◌≤◌, ◌⊎◌, Option, Some, None, Result, Ok, Err, List, [], ◌∷◌, take, zero, suc, IsSome, if◌then◌else◌}
+use Rattle.std.specs.Prelude.{◌≡◌, ℕ, ◌+◌, ◌/◌, ◌%◌, true, false, ◌<◌, ◌≤◌, ◌⊎◌, Option, Some, None}
+use Rattle.std.specs.Prelude.{Result, Ok, Err, List, [], ◌∷◌, take, zero, suc, IsSome}
+use Rattle.std.specs.Prelude.{if◌then◌else◌}
 use Rattle.erim_defs.specs.declared.machine.Rights.{Rights}
 use Rattle.erim_defs.specs.declared.machine.Access.{Access}
-use Rattle.erim_defs.specs.Pages.{RightsMap, ByteMap, word, stored}
-use Rattle.erim_defs.specs.Access.{Seen, stop}
+use Rattle.erim_defs.specs.Machine.Pages.{RightsMap, ByteMap, word, with_number}
+use Rattle.erim_defs.specs.Machine.Access.{Seen, stop}
 
 abbrev pub rights_told : Option (Option Rights) → Option Rights
 rights_told None = None
@@ -27,7 +29,8 @@ bytes_unless (Some s) new old = old
 
 -- the bytes after a store of n bytes
 abbrev pub bytes_after_store : Seen → ByteMap → ℕ → ℕ → ℕ → ℕ → ByteMap
-bytes_after_store seen bytes pkru a n v = bytes_unless (stop seen true pkru a n) (stored bytes a n v) bytes
+bytes_after_store seen bytes pkru a n v =
+    bytes_unless (stop seen true pkru a n) (with_number bytes a n v) bytes
 
 abbrev pub cons_ok : ℕ → Result (List ℕ) ℕ → Result (List ℕ) ℕ
 cons_ok x (Ok xs) = Ok (x ∷ xs)
@@ -38,10 +41,12 @@ code_told None q x rest = Err q
 code_told (Some None) q x rest = Ok []
 code_told (Some (Some r)) q x rest = if r.exec then cons_ok x rest else Ok []
 
--- the published bytes from a on, at most n, up to the first absent one; or the page that isn't held, if it comes first
+-- the published bytes from a on, at most n, up to the first absent one; or the page that isn't
+-- held, if it comes first
 unfoldable pub fetch_of : Seen → ByteMap → ℕ → ℕ → Result (List ℕ) ℕ
 fetch_of seen bytes a zero = Ok []
-fetch_of seen bytes a (suc n) = code_told (seen (a / 4096)) (a / 4096) (bytes a) (fetch_of seen bytes (suc a) n)
+fetch_of seen bytes a (suc n) =
+    code_told (seen (a / 4096)) (a / 4096) (bytes a) (fetch_of seen bytes (suc a) n)
 
 -- what a fetch answers, and what it wrote
 abbrev pub Fetches : Result (List ℕ) ℕ → Result ℕ ℕ → List ℕ → Type 0
@@ -55,11 +60,8 @@ IsWidth n = (n ≡ 1) ⊎ (n ≡ 2) ⊎ (n ≡ 4) ⊎ (n ≡ 8)
 -- the least mapped page from one on
 abbrev pub IsNextPage : RightsMap → ℕ → Option ℕ → Type 0
 IsNextPage rights from None = (q : ℕ) → from ≤ q → rights q ≡ None
-IsNextPage rights from (Some p) = (from ≤ p) × IsSome (rights p) × ((q : ℕ) → from ≤ q → q < p → rights q ≡ None)
-
--- keys are below 16, and protection bits below 8
-abbrev pub IsSound : Rights → Type 0
-IsSound r = (r.key < 16) × (r.asked < 8)
+IsNextPage rights from (Some p) = (from ≤ p) × IsSome (rights p) × ((q : ℕ) → from ≤ q → q < p
+    → rights q ≡ None)
 
 -- the byte of a number at a place, low byte first
 unfoldable pub byte_at : ℕ → ℕ → ℕ

@@ -1,7 +1,8 @@
 -- Pages in a list. Own.
-use Rattle.std.specs.Prelude.{ℕ, ◌/◌, ◌%◌, ◌^◌, ◌==◌, ◌&&◌, nat_lt, Bool, true, Option, Some, None, is_none, List, [], ◌∷◌, slice_index, length, if◌then◌else◌}
+use Rattle.std.specs.Prelude.{ℕ, ◌/◌, ◌%◌, ◌^◌, ◌==◌, ◌&&◌, nat_lt, Bool, true, Option, Some, None}
+use Rattle.std.specs.Prelude.{is_none, List, [], ◌∷◌, slice_index, length, if◌then◌else◌}
 use Rattle.erim_defs.specs.declared.machine.Rights.{Rights}
-use Rattle.erim_defs.specs.Pages.{RightsMap, ByteMap}
+use Rattle.erim_defs.specs.Machine.Pages.{RightsMap, ByteMap}
 use Rattle.page_store.specs.declared.page_list.Page.{Page}
 
 -- the page of a number
@@ -28,7 +29,8 @@ is_sound r = nat_lt r.key 16 && nat_lt r.asked 8
 
 -- a page that is listed before the pages ps
 abbrev pub is_fresh : Page → List Page → Bool
-is_fresh p ps = is_none (find_page ps p.number) && nat_lt p.number (2 ^ 35) && is_sound p.rights && (length p.bytes == 4096)
+is_fresh p ps = is_none (find_page ps p.number) && nat_lt p.number (2 ^ 35) && is_sound p.rights
+    && (length p.bytes == 4096)
 
 -- each page number stands once and is below 2^35, and all rights are sound
 abbrev pub is_listed : List Page → Bool

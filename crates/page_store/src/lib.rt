@@ -1,4 +1,11 @@
-//! The memory that an instruction sees, and the pages of a process.
+//! The pages of a process: their rights and bytes, and the accesses that they allow.
+//!
+//! `Memory` is what an instruction sees (`load`, `store`, `fetch`), and `Pages` adds what a process
+//! does to its pages (`map_zero`, `set_rights`, `copy_page`). The contracts of both speak of what a
+//! memory tells of each page, `seen`, by the definitions `stop`, `word` and `code_bytes` of
+//! `erim_defs`. `PageList` implements both over a list of pages; `erim_process` steps on any
+//! `Pages`. The laws `noted` and `few` say that every address counts, and that mapped pages and
+//! free frames are together at most 8,192.
 #![tactic(auto)]
 
 mod copy;

@@ -1,20 +1,20 @@
 //! Pages in a vector.
 
-ghost use Rattle.std.specs.Prelude.{refl, ◌≡◌, ◌≢◌, length, ℕ, ◌+◌, ◌/◌, ◌%◌, ◌<◌, ◌≤◌, ◌^◌, Some, None, true, IfOk, MatchOption, vec_len, vec_capacity, slice_index_or};
-ghost use Rattle.erim_defs.specs.Pages.{is_published, put, word, stored};
-ghost use Rattle.erim_defs.specs.Access.{whole, stop, stop_at, stop_on};
+ghost use Rattle.std.specs.Prelude.{refl, ◌≡◌, ◌≢◌, length, ℕ, ◌+◌, ◌/◌, ◌%◌, ◌<◌, ◌≤◌, ◌^◌, Some};
+ghost use Rattle.std.specs.Prelude.{None, true, IfOk, MatchOption, vec_len, vec_capacity};
+ghost use Rattle.std.specs.Prelude.{slice_index_or};
+ghost use Rattle.erim_defs.specs.Machine.Pages.{is_published, with_value_at, word, with_number};
+ghost use Rattle.erim_defs.specs.Machine.Access.{whole, stop, stop_at, stop_on};
 ghost use Rattle.page_store.specs.declared.page_list.Page.{Page};
 ghost use Rattle.page_store.specs.Answers.{HasBytes};
 ghost use Rattle.page_store.specs.Listed.{is_listed, find_page, list_rights, list_bytes, nearer};
 
 use crate::copy::PageCopy;
 use crate::memory::{Memory, Pages};
+use erim_defs::page::USER_END;
 use erim_defs::{Access, Cause, NoMemory, Rights};
 use std::alloc::Global;
 use thread_state::{may_read, may_write};
-
-// The first address that is no user address.
-const USER_END: u64 = 0x8000_0000_0000;
 
 /// A mapped page.
 #[derive(Drop)]
@@ -32,6 +32,7 @@ pub struct PageList {
     ghost listed: { is_listed pages.items ≡ true },
     ghost room: { vec_len pages ≤ frames },
     ghost capacity: { frames ≤ vec_capacity pages },
+    ghost few: { frames ≤ 8192 },
 }
 
 impl PageList {
@@ -49,7 +50,9 @@ impl PageList {
     // The place of a page.
     fn find(&self, page: u64) -> Option<usize>
         ensures { MatchOption result (find_page self.now.pages.items page ≡ None)
-            (λ i. (i < length self.now.pages.items) × ((d : Page) → find_page self.now.pages.items page ≡ Some (slice_index_or self.now.pages.items i d))) }
+            (λ i. (i < length self.now.pages.items) × ((d : Page)
+            → find_page self.now.pages.items page
+            ≡ Some (slice_index_or self.now.pages.items i d))) }
     {
         for (i, held) in self.pages.iter().enumerate() {
             if held.number == page {
@@ -60,7 +63,7 @@ impl PageList {
     }
 
     // Why an access to one byte stops.
-    fn byte_stop(&self, write: bool, pkru: u32, addr: u64) -> Option<Access>
+    fn stop_at(&self, write: bool, pkru: u32, addr: u64) -> Option<Access>
         ensures { result ≡ stop_at (whole (list_rights self.now.pages.items)) write pkru addr }
     {
         if addr >= USER_END {
@@ -80,13 +83,13 @@ impl PageList {
 
     // Why an access stops, by its first byte that does.
     #[tactic(auto, using(crate::proofs::MapLemmas::stop_more, crate::proofs::MapLemmas::stop_none))]
-    fn first_stop(&self, write: bool, pkru: u32, addr: u64, n: u8) -> Option<Access>
+    fn stop(&self, write: bool, pkru: u32, addr: u64, n: u8) -> Option<Access>
         ensures { result ≡ stop (whole (list_rights self.now.pages.items)) write pkru addr n }
     {
         let mut at = addr;
         let mut left = n;
         while left > 0 {
-            if let Some(access) = self.byte_stop(write, pkru, at) {
+            if let Some(access) = self.stop_at(write, pkru, at) {
                 return Some(access);
             }
             at += 1;
@@ -135,7 +138,8 @@ impl PageList {
     // Writes the byte at an address of a mapped page.
     fn set_byte(&mut self, addr: u64, value: u8)
         requires { list_rights self.old.pages.items (addr / 4096) ≢ None }
-        ensures bytes { list_bytes self.new.pages.items ≡ put (list_bytes self.old.pages.items) addr value }
+        ensures bytes { list_bytes self.new.pages.items
+            ≡ with_value_at (list_bytes self.old.pages.items) addr value }
         ensures rights { list_rights self.new.pages.items ≡ list_rights self.old.pages.items }
         ensures frames { self.new.frames ≡ self.old.frames }
     {
@@ -148,8 +152,10 @@ impl PageList {
     #[tactic(auto, using(crate::proofs::MapLemmas::stored_more, crate::proofs::MapLemmas::stored_none))]
     fn set_number(&mut self, addr: u64, n: u8, value: u64)
         requires low { addr < 2 ^ 47 }
-        requires mapped { (k : ℕ) → k < n → list_rights self.old.pages.items ((addr + k) / 4096) ≢ None }
-        ensures bytes { list_bytes self.new.pages.items ≡ stored (list_bytes self.old.pages.items) addr n value }
+        requires mapped { (k : ℕ) → k < n
+            → list_rights self.old.pages.items ((addr + k) / 4096) ≢ None }
+        ensures bytes { list_bytes self.new.pages.items
+            ≡ with_number (list_bytes self.old.pages.items) addr n value }
         ensures rights { list_rights self.new.pages.items ≡ list_rights self.old.pages.items }
         ensures frames { self.new.frames ≡ self.old.frames }
     {
@@ -225,7 +231,7 @@ impl Memory for PageList {
 
     #[tactic(auto, using(crate::proofs::NoteLemmas::no_notes))]
     fn load(&mut self, pkru: u32, addr: u64, n: u8) -> Result<u64, Access> {
-        match self.first_stop(false, pkru, addr, n) {
+        match self.stop(false, pkru, addr, n) {
             Some(access) => Err(access),
             None => Ok(self.number(addr, n)),
         }
@@ -233,7 +239,7 @@ impl Memory for PageList {
 
     #[tactic(auto, using(crate::proofs::NoteLemmas::no_notes))]
     fn store(&mut self, pkru: u32, addr: u64, n: u8, value: u64) -> Result<(), Access> {
-        match self.first_stop(true, pkru, addr, n) {
+        match self.stop(true, pkru, addr, n) {
             Some(access) => Err(access),
             None => {
                 self.set_number(addr, n, value);
@@ -255,6 +261,10 @@ impl Pages for PageList {
     ghost sound = { λ s q r h. list_sound s.pages.items q r s.listed h };
 
     ghost roomy = { λ s. refl };
+
+    ghost noted = { λ s a. refl };
+
+    ghost few = { λ s. s.few };
 
     fn rights(&self, page: u64) -> Option<Rights> {
         match self.find(page) {

@@ -1,5 +1,5 @@
 ghost use Rattle.std.specs.Prelude.{◌<◌, ◌^◌};
-ghost use Rattle.page_store.specs.Answers.{IsSound};
+ghost use Rattle.erim_defs.specs.Machine.Pages.{IsSound};
 
 use super::*;
 use erim_defs::{Access, Cause, Rights};
@@ -93,7 +93,8 @@ fn the_first_byte_that_fails_decides(rt: HostRuntime) -> Result<(), Fail> {
     map(&rt, &mut pages, 0x13, SEALED);
     let stores: [(u32, u64, u8, u64, Result<(), Access>); 8] = [
         (CLOSED, 0x10000, 8, 0x1122_3344_5566_7788, Ok(())),
-        // Over an edge: the lower page is asked first, and nothing is written where the upper one refuses.
+        // Over an edge: the lower page is asked first, and nothing is written where the upper one
+        // refuses.
         (OPEN, 0x10FFC, 8, 0x0102_0304_0506_0708, Ok(())),
         (CLOSED, 0x10FFC, 8, 0, Err(fault(Cause::Key, 0x11000))),
         (CLOSED, 0x11FFE, 4, 0, Err(fault(Cause::Key, 0x11FFE))),

@@ -1,7 +1,7 @@
 //! The bytes of a code, by their places.
 
 ghost use Rattle.std.specs.Prelude.{◌≡◌, ◌+◌, ℕ};
-ghost use Rattle.erim_defs.specs.Code.{laid_at, has, allows};
+ghost use Rattle.erim_defs.specs.Inspection.Code.{laid_at, has, allows};
 
 /// The byte at a place of the code, or none behind its end.
 #[tactic(auto, using(erim_defs::proofs::CodeLemmas::laid_at_place))]

@@ -1,23 +1,25 @@
 //! Is a sequence safe?
 
 ghost use Rattle.std.specs.Prelude.{◌≡◌, ◌+◌, ◌<◌, ◌≤◌, ◌^◌, ℕ, Some, length};
-ghost use Rattle.erim_defs.specs.Code.{laid_at};
-ghost use Rattle.erim_defs.specs.Occurrence.{occurrence_at};
-ghost use Rattle.erim_defs.specs.Safe.{fits, check_of, opens_gate, is_safe};
-ghost use Rattle.erim_defs.specs.Trust.{is_entry_of};
+ghost use Rattle.erim_defs.specs.Inspection.Code.{laid_at};
+ghost use Rattle.erim_defs.specs.Inspection.Occurrence.{occurrence_at};
+ghost use Rattle.erim_defs.specs.Inspection.Safe.{fits, opens_gate, is_safe};
+ghost use Rattle.erim_defs.specs.Inspection.Check.{check_of};
+ghost use Rattle.erim_defs.specs.Inspection.Trust.{TrustValue};
 
 use crate::bytes::byte_allows;
 use erim_defs::{Found, SeqKind, Trust};
 
-/// What has to follow a WRPKRU: `cmp eax, 0x55555554`, `je` over the rest, `mov eax, 231`, `syscall`.
+/// What has to follow a WRPKRU: `cmp eax, 0x55555554`, `je` over the rest, `mov eax, 231`,
+/// `syscall`.
 const WRPKRU_CHECK: [u8; 14] = [
     0x3D, 0x54, 0x55, 0x55, 0x55, 0x74, 0x07, 0xB8, 0xE7, 0x00, 0x00, 0x00, 0x0F, 0x05,
 ];
 
-/// The check that has to follow a sequence.
-#[tactic(auto, unfolding(erim_defs::specs::Safe::check_of))]
+/// The check that has to follow a sequence, whatever address is behind it.
+#[tactic(auto, unfolding(erim_defs::specs::Inspection::Check::check_of))]
 fn check_of(kind: SeqKind) -> &'static [u8]
-    ensures { result.now ≡ check_of kind }
+    ensures { (trust : TrustValue) (next : ℕ) → result.now ≡ check_of trust kind next }
 {
     match kind {
         SeqKind::Wrpkru => &WRPKRU_CHECK,
@@ -39,7 +41,7 @@ fn check_fits(code: &[u8], place: usize, check: &[u8]) -> bool
 
 /// Is the address behind a sequence an entry, where that is enough?
 fn opens_gate(kind: SeqKind, next: u64, trust: &Trust) -> bool
-    ensures { result ≡ opens_gate (is_entry_of trust.now) kind next }
+    ensures { result ≡ opens_gate trust.now kind next }
 {
     match kind {
         SeqKind::Wrpkru => trust.is_entry(next),
@@ -50,7 +52,7 @@ fn opens_gate(kind: SeqKind, next: u64, trust: &Trust) -> bool
 pub fn is_safe(code: &[u8], base: u64, found: &Found, trust: &Trust) -> bool
     requires user { base + length code.now ≤ 2 ^ 47 }
     requires there { occurrence_at (laid_at base code.now) found.now.at ≡ Some found.now }
-    ensures { result ≡ is_safe (is_entry_of trust.now) (laid_at base code.now) found.now }
+    ensures { result ≡ is_safe trust.now (laid_at base code.now) found.now }
 {
     let behind = (found.at - base) as usize + found.len as usize;
     opens_gate(found.kind, base + behind as u64, trust)

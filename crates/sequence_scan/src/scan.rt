@@ -1,14 +1,14 @@
 //! Which sequences stand in a code.
 
 ghost use Rattle.std.specs.Prelude.{◌≡◌, ◌+◌, ◌<◌, ◌≤◌, ◌^◌, length};
-ghost use Rattle.erim_defs.specs.Code.{laid_at};
-ghost use Rattle.erim_defs.specs.Occurrence.{occurrence_at, IsFirstFrom};
+ghost use Rattle.erim_defs.specs.Inspection.Code.{laid_at};
+ghost use Rattle.erim_defs.specs.Inspection.Occurrence.{occurrence_at, IsFirstFrom};
 
 use crate::bytes::byte_is;
 use erim_defs::{Found, SeqKind};
 
 /// The sequence that begins at `place`, if there is one.
-#[tactic(auto, unfolding(erim_defs::specs::Occurrence::occurrence_at))]
+#[tactic(auto, unfolding(erim_defs::specs::Inspection::Occurrence::occurrence_at))]
 fn sequence_at(code: &[u8], base: u64, place: usize) -> Option<Found>
     requires inside { place < length code.now }
     requires user { base + length code.now ≤ 2 ^ 47 }
@@ -27,8 +27,8 @@ fn sequence_at(code: &[u8], base: u64, place: usize) -> Option<Found>
     None
 }
 
-/// The first sequence at or after the place `from` that lies wholly in `code`, whose place 0 has the
-/// address `base`. Each place is asked.
+/// The first sequence at or after the place `from` that lies wholly in `code`, whose place 0 has
+/// the address `base`. Each place is asked.
 pub fn next_sequence(code: &[u8], base: u64, from: usize) -> Option<Found>
     requires { base + length code.now ≤ 2 ^ 47 }
     ensures { IsFirstFrom (laid_at base code.now) (base + from) result }

@@ -1,16 +1,1 @@
-pub mod Parts
-pub mod Operands
-pub mod Tables
-pub mod Lines
-pub mod Agree
-pub mod Tails
-pub mod Bodies
-pub mod Stops
-pub mod Whole
-pub mod Fronts
-pub mod Spelled
-pub mod Function
-pub mod Says
-pub mod Lengths
-pub mod Layouts
-pub mod Spellings
+mod LayoutLemmas

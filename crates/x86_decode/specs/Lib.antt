@@ -1,5 +1,2 @@
-pub mod Reading
-pub mod Exact
-pub mod Coded
-pub mod Whole
+pub mod Gives
 pub mod Layout

@@ -1,21 +1,21 @@
 //! Decoding: what bytes begin with.
 
 ghost use Rattle.std.specs.Prelude.{◌≡◌, ℕ, List};
-ghost use Rattle.erim_defs.specs.Parts.{AreBytes};
-ghost use Rattle.erim_defs.specs.Decodes.{Decodes, Again, OneSpelling};
-ghost use Rattle.erim_defs.specs.Decoded.{decoded};
-ghost use Rattle.x86_decode.specs.Whole.{IsWhole};
-ghost use Rattle.x86_decode.specs.Reading.{IsWindow};
+ghost use Rattle.erim_defs.specs.Encoding.Parts.{AreBytes};
+ghost use Rattle.erim_defs.specs.Encoding.Decodes.{Decodes, DecodesEncodings, PrefixFree};
+ghost use Rattle.erim_defs.specs.Encoding.Decoding.{decode};
+ghost use Rattle.erim_defs.specs.Encoding.Decodes.{IsWhole};
+ghost use Rattle.erim_defs.specs.Encoding.Decoding.{IsWindow};
 
-use crate::front::front;
+use crate::front::front_at;
 use erim_defs::Decoded;
 use erim_defs::grammar::Stop;
 
-/// How many bytes a spelling can have (SDM volume 2, "Instruction format").
+/// How many bytes an encoding can have (SDM volume 2, "Instruction format").
 const LIMIT: usize = 15;
 
-/// The front of the bytes that a spelling can have.
-#[tactic(auto, using(crate::proofs::Spelled::window_take, crate::proofs::Spelled::window_all))]
+/// The front of the bytes that an encoding can have.
+#[tactic(auto, using(erim_defs::proofs::EncodingLemmas::window_take, erim_defs::proofs::EncodingLemmas::window_all))]
 pub fn window_of(bytes: &[u8]) -> &[u8]
     ensures { IsWindow bytes.now result.now }
 {
@@ -26,12 +26,12 @@ pub fn window_of(bytes: &[u8]) -> &[u8]
     }
 }
 
-/// The answer, under the limit of a spelling's size.
-fn first(bytes: &[u8]) -> Decoded
+/// The answer, under the limit of an encoding's size.
+fn decode_window(bytes: &[u8]) -> Decoded
     ensures { Decodes bytes.now result }
 {
     let window = window_of(bytes);
-    match front(0, false, false, window) {
+    match front_at(0, false, false, window) {
         Ok((insn, skip, _sizes, rest)) => {
             Decoded::Insn {
                 insn,
@@ -53,19 +53,19 @@ fn first(bytes: &[u8]) -> Decoded
 /// What the bytes begin with: an instruction, the beginning of one, or neither. Takes no memory.
 pub fn decode(bytes: &[u8]) -> Decoded
     ensures exact { Decodes bytes.now result }
-    ensures again { Again bytes.now result }
-    ensures function { result ≡ decoded bytes.now }
+    ensures encodings { DecodesEncodings bytes.now result }
+    ensures function { result ≡ decode bytes.now }
     ensures whole { IsWhole bytes.now result }
 {
-    first(bytes)
+    decode_window(bytes)
 }
 
-/// At most one instruction, and no spelling begins another.
-pub fn one_spelling()
-    ensures { OneSpelling }
+/// At most one instruction, and no encoding begins another.
+pub fn prefix_free()
+    ensures { PrefixFree }
 {}
 
 /// The function on lists is what the relation says.
-pub fn decoded_is()
-    ensures { (bytes : List ℕ) → AreBytes bytes → Decodes bytes (decoded bytes) }
+pub fn decode_is_exact()
+    ensures { (bytes : List ℕ) → AreBytes bytes → Decodes bytes (decode bytes) }
 {}

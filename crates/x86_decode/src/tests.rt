@@ -1,11 +1,11 @@
-//! Worked spellings, against the SDM's opcode tables.
+//! Worked encodings, against the SDM's opcode tables.
 
 use crate::{Layout, Part, decode, locate};
 use erim_defs::{AluOp, Base, By, Decoded, Insn, Mem, Place, ShiftOp, Src, UnaryOp, Width};
 use std::process::Abort;
 
 /// Bytes, their instruction, its length, and how many bytes stand before its opcode.
-type Spelling<'a> = (&'a [u8], Insn, u8, u8);
+type Encoding<'a> = (&'a [u8], Insn, u8, u8);
 
 const R0: Place = Place::Reg(0);
 
@@ -31,7 +31,7 @@ fn at_number(disp: i32) -> Place {
     Place::At(mem(Base::Zero, None, 0, disp))
 }
 
-/// Memory at a distance from the next instruction.
+/// Memory at a relative offset from the next instruction.
 fn at_next(disp: i32) -> Place {
     Place::At(mem(Base::Rip, None, 0, disp))
 }
@@ -60,10 +60,14 @@ fn mov(w: Width, dst: Place, number: i32) -> Insn {
     Insn::Mov { w, dst, src }
 }
 
-/// Reads each text as its instruction.
-fn read_all(rt: &impl Abort, spellings: &[Spelling]) {
-    for &(text, insn, len, skip) in spellings {
-        assert_eq!(rt; decode(text), Decoded::Insn { insn, len, skip }, "{text:?}");
+/// Reads each encoding as its instruction.
+fn read_all(rt: &impl Abort, encodings: &[Encoding]) {
+    for &(encoding, insn, len, skip) in encodings {
+        assert_eq!(rt;
+            decode(encoding),
+            Decoded::Insn { insn, len, skip },
+            "{encoding:?}"
+        );
     }
 }
 
@@ -72,22 +76,22 @@ fn part(at: u8, len: u8) -> Option<Part> {
     Some(Part { at, len })
 }
 
-/// Finds a displacement, an immediate and a distance in each text.
+/// Finds a displacement, an immediate and a relative offset in each encoding.
 fn locate_all(rt: &impl Abort, rows: &[(&[u8], [Option<Part>; 3])]) {
-    for &(text, [displacement, immediate, distance]) in rows {
+    for &(encoding, [displacement, immediate, relative_offset]) in rows {
         let layout = Layout {
             displacement,
             immediate,
-            distance,
+            relative_offset,
         };
-        assert_eq!(rt; locate(text), Some(layout), "{text:?}");
+        assert_eq!(rt; locate(encoding), Some(layout), "{encoding:?}");
     }
 }
 
-/// Reads each text as this.
-fn read_as(rt: &impl Abort, texts: &[&[u8]], answer: Decoded) {
-    for text in texts {
-        assert_eq!(rt; decode(text), answer, "{text:?}");
+/// Reads each encoding as this.
+fn read_as(rt: &impl Abort, encodings: &[&[u8]], answer: Decoded) {
+    for encoding in encodings {
+        assert_eq!(rt; decode(encoding), answer, "{encoding:?}");
     }
 }
 
@@ -828,7 +832,7 @@ fn locates_the_parts(rt: HostRuntime) {
             (&[0xC3], [None, None, None]),
         ],
     );
-    for text in [&[], &[0x0F], &[0x48, 0x8B, 0x45], &[0x06, 0x00]] as [&[u8]; 4] {
-        assert_eq!(&rt; locate(text), None, "{text:?}");
+    for encoding in [&[], &[0x0F], &[0x48, 0x8B, 0x45], &[0x06, 0x00]] as [&[u8]; 4] {
+        assert_eq!(&rt; locate(encoding), None, "{encoding:?}");
     }
 }

@@ -1,4 +1,4 @@
--- What is known of the parts of an instruction that is spelled.
+-- What is known of the parts of an instruction that is encoded.
 use Rattle.std.proofs.Common.{◌≡◌, ℕ, ◌+◌, ◌%◌, ◌<◌, ◌==◌, Bool, true, false, Option, Some, None}
 use Rattle.std.specs.Prelude.{FitsSigned}
 use Rattle.std.specs.Int.{w32}

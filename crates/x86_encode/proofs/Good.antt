@@ -1,17 +1,21 @@
--- What is known of an instruction that is spelled, with REX or without.
+-- What is known of an instruction that is encoded, with REX or without.
 use Rattle.std.proofs.Common.{◌⊎◌, ◌≡◌, ℕ, ◌^◌, ◌<◌, ◌&&◌, Bool, true, false, Option, Some, None, ℤ}
 use Rattle.std.specs.Prelude.{FitsSigned}
 use Rattle.std.specs.Int.{w8, w32}
 use Rattle.erim_defs.specs.declared.insn.By.{By}
 use Rattle.erim_defs.specs.declared.insn.By.TheVariants.{Count, Cl}
 use Rattle.erim_defs.specs.declared.insn.Insn.{Insn}
-use Rattle.erim_defs.specs.declared.insn.Insn.TheVariants.{Alu, Test, Xchg, Mov, MovWide, Lea, Push, Pop, MovSxd, MovZx, MovSx, Imul, Jcc, Jmp, Call, JmpTo, CallTo, Widen, Spread, Shift, Unary, Cmov, Set, Bt, Cmpxchg, Xadd, Xrstor, Fence}
+use Rattle.erim_defs.specs.declared.insn.Insn.TheVariants.{Alu, Test, Xchg, Mov, MovWide, Lea, Push}
+use Rattle.erim_defs.specs.declared.insn.Insn.TheVariants.{Pop, MovSxd, MovZx, MovSx, Imul, Jcc}
+use Rattle.erim_defs.specs.declared.insn.Insn.TheVariants.{Jmp, Call, JmpTo, CallTo, Widen, Spread}
+use Rattle.erim_defs.specs.declared.insn.Insn.TheVariants.{Shift, Unary, Cmov, Set, Bt, Cmpxchg}
+use Rattle.erim_defs.specs.declared.insn.Insn.TheVariants.{Xadd, Xrstor, Fence}
 use Rattle.erim_defs.specs.declared.insn.Place.{Place}
 use Rattle.erim_defs.specs.declared.insn.Src.{Src}
 use Rattle.erim_defs.specs.declared.insn.Src.TheVariants.{From, Imm}
 use Rattle.erim_defs.specs.declared.insn.Width.{Width}
 use Rattle.erim_defs.specs.declared.insn.Width.TheVariants.{W1, W4, W8}
-use Rattle.erim_defs.specs.Canonical.{alu_number}
+use Rattle.erim_defs.specs.Encoding.Canonical.{alu_number}
 use Rattle.x86_encode.proofs.Facts.{limit, MemFits, PlaceFits, is_memory}
 use Rattle.x86_encode.proofs.Views.{WidthFits, IsWord, SizedFits, IsLow}
 
@@ -63,7 +67,8 @@ ByFits (Count k) = k < 256
 ByFits Cl = Unit {0}
 
 abbrev pub IsGood : Bool → Insn → Type 0
-IsGood any (Alu op w dst src lock) = WidthFits any w × SizedFits any w dst × SrcFits any w dst src × LockFits lock dst × (lock ≡ true → alu_number op < 7)
+IsGood any (Alu op w dst src lock) = WidthFits any w × SizedFits any w dst × SrcFits any w dst src
+    × LockFits lock dst × (lock ≡ true → alu_number op < 7)
 IsGood any (Test w a src) = WidthFits any w × SizedFits any w a × TestedFits any w src
 IsGood any (Xchg w a r lock) = ExchangeFits any w a r lock
 IsGood any (Mov w dst src) = WidthFits any w × SizedFits any w dst × SrcFits any w dst src

@@ -2,7 +2,7 @@ pub mod Numbers
 pub mod Facts
 pub mod Leads
 pub mod Operands
-pub mod Texts
+pub mod Encodings
 pub mod Views
 pub mod Founds
 pub mod Good

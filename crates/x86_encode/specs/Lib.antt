@@ -1,2 +1,2 @@
-pub mod Encoded
-pub mod Written
+pub mod Buffer
+pub mod ReadBack

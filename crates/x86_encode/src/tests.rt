@@ -1,9 +1,10 @@
-//! Canonical spellings written from the rules by hand, and read back; other spellings with their canonical ones.
+//! Canonical encodings written from the rules by hand, and read back; other encodings with their
+//! canonical ones.
 
 ghost use Rattle.std.specs.Prelude.{◌≤◌};
 
 use crate::encode;
-use crate::encoding::write;
+use crate::encoding::put_canonical;
 use erim_defs::{AluOp, Base, By, Decoded, Insn, Mem, Place, ShiftOp, Src, UnaryOp, Width};
 use std::alloc::Global;
 use std::process::Abort;
@@ -25,39 +26,39 @@ fn at(base: u8, disp: i32) -> Place {
     Place::At(mem(Base::Reg(base), None, 0, disp))
 }
 
-/// Each instruction is written as its text and read from it, and the bytes behind it stay.
+/// Each instruction is written as its encoding and read from it, and the bytes behind it stay.
 fn write_all(rt: &impl Abort, rows: &[(Insn, &[u8])]) {
-    for &(insn, text) in rows {
+    for &(insn, encoding) in rows {
         let mut into = [0xCC; 15];
-        let len = write(&insn, &mut into) as usize;
-        assert_eq!(rt; &into[..len], text, "{insn:?}");
+        let len = put_canonical(&insn, &mut into) as usize;
+        assert_eq!(rt; &into[..len], encoding, "{insn:?}");
         for b in &into[len..] {
             assert_eq!(rt; *b, 0xCC, "{insn:?}");
         }
-        read_as(rt, text, insn);
+        read_as(rt, encoding, insn);
     }
 }
 
-/// The whole text is read as this.
-fn read_as(rt: &impl Abort, text: &[u8], insn: Insn) {
-    match decode(text) {
+/// The whole encoding is read as this.
+fn read_as(rt: &impl Abort, encoding: &[u8], insn: Insn) {
+    match decode(encoding) {
         Decoded::Insn {
             insn: read,
             len,
             ..
         } => {
-            assert_eq!(rt; read, insn, "{text:?}");
-            assert_eq!(rt; len as usize, text.len(), "{text:?}");
+            assert_eq!(rt; read, insn, "{encoding:?}");
+            assert_eq!(rt; len as usize, encoding.len(), "{encoding:?}");
         }
-        _ => assert!(rt; false, "{text:?}"),
+        _ => assert!(rt; false, "{encoding:?}"),
     }
 }
 
-/// The canonical spelling of what bytes begin with; nothing where they begin with nothing.
-fn rewrite(text: &[u8], into: &mut [u8; 15]) -> u8
+/// The canonical encoding of what bytes begin with; nothing where they begin with nothing.
+fn rewrite(encoding: &[u8], into: &mut [u8; 15]) -> u8
     ensures { result ≤ 15 }
 {
-    match decode(text) {
+    match decode(encoding) {
         Decoded::Insn { insn, .. } => encode(&insn, into),
         _ => 0,
     }
@@ -888,7 +889,7 @@ fn writes_others(rt: HostRuntime) {
 }
 
 #[test]
-fn rewrites_other_spellings(rt: HostRuntime) {
+fn rewrites_other_encodings(rt: HostRuntime) {
     let rows: &[(&[u8], &[u8])] = &[
         (&[0x40, 0x01, 0xEF], &[0x01, 0xEF]),
         (&[0x05, 0x05, 0x00, 0x00, 0x00], &[0x83, 0xC0, 0x05]),
@@ -919,10 +920,10 @@ fn rewrites_other_spellings(rt: HostRuntime) {
             &[0xB8, 0x01, 0x00, 0x00, 0x00],
         ),
     ];
-    for &(text, canonical) in rows {
+    for &(encoding, canonical) in rows {
         let mut into = [0; 15];
-        let len = rewrite(text, &mut into);
-        assert_eq!(rt; &into[..len as usize], canonical, "{text:?}");
+        let len = rewrite(encoding, &mut into);
+        assert_eq!(rt; &into[..len as usize], canonical, "{encoding:?}");
     }
 }
 
@@ -932,9 +933,9 @@ fn next(seed: u64) -> u64 {
         .wrapping_add(1_442_695_040_888_963_407)
 }
 
-/// Prints the canonical spelling of what bytes begin with, read back, in hexadecimal digits.
-fn print_spelling(rt: &(impl Abort + Print), alloc: Global, text: &[u8]) -> Result<(), Fail> {
-    let Decoded::Insn { insn, .. } = decode(text) else {
+/// Prints the canonical encoding of what bytes begin with, read back, in hexadecimal digits.
+fn print_encoding(rt: &(impl Abort + Print), alloc: Global, encoding: &[u8]) -> Result<(), Fail> {
+    let Decoded::Insn { insn, .. } = decode(encoding) else {
         return Ok(());
     };
     let mut into = [0; 15];
@@ -949,15 +950,15 @@ fn print_spelling(rt: &(impl Abort + Print), alloc: Global, text: &[u8]) -> Resu
 }
 
 #[test]
-fn spells_instructions_of_random_bytes(rt: HostRuntime) -> Result<(), Fail> {
+fn encodes_instructions_of_random_bytes(rt: HostRuntime) -> Result<(), Fail> {
     let mut seed = 1;
     for _ in 0..3000 {
-        let mut text = [0; 15];
-        for b in &mut text {
+        let mut encoding = [0; 15];
+        for b in &mut encoding {
             seed = next(seed);
             *b = (seed >> 56) as u8;
         }
-        print_spelling(&rt, rt.alloc(), &text)?;
+        print_encoding(&rt, rt.alloc(), &encoding)?;
     }
     Ok(())
 }

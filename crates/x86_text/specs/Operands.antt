@@ -1,11 +1,11 @@
 -- The operands that the crate makes of an instruction, as they are written. Own.
 use Rattle.std.specs.Prelude.{ℕ, List, [], ◌∷◌, codes}
 use Rattle.std.specs.Fmt.{decimal, signed_decimal}
-use Rattle.erim_defs.specs.Notation.{place_text}
-use Rattle.x86_text.specs.declared.parts.Operand.{Operand}
-use Rattle.x86_text.specs.declared.parts.Operand.TheVariants as operand
-use Rattle.x86_text.specs.declared.parts.OperandList.{OperandList}
-use Rattle.x86_text.specs.declared.parts.OperandList.TheVariants.{None, One, Two, Three}
+use Rattle.erim_defs.specs.Encoding.Notation.{place_text}
+use Rattle.x86_text.specs.declared.operand_list.Operand.{Operand}
+use Rattle.x86_text.specs.declared.operand_list.Operand.TheVariants as operand
+use Rattle.x86_text.specs.declared.operand_list.OperandList.{OperandList}
+use Rattle.x86_text.specs.declared.operand_list.OperandList.TheVariants.{None, One, Two, Three}
 
 abbrev pub operand_text : Operand → List ℕ
 operand_text (operand.Place p) = place_text p

@@ -1,7 +1,8 @@
 //! The names of instructions, widths and scales.
 
 ghost use Rattle.std.specs.Prelude.{◌≡◌, Some, codes};
-ghost use Rattle.erim_defs.specs.Notation.{alu_name, shift_name, unary_name, scale_text, width_text, lock_text, written};
+ghost use Rattle.erim_defs.specs.Encoding.Notation.{alu_name, shift_name, unary_name, scale_text};
+ghost use Rattle.erim_defs.specs.Encoding.Notation.{width_text, lock_text, notation_of};
 
 use erim_defs::{AluOp, Insn, ShiftOp, UnaryOp, Width};
 
@@ -42,7 +43,7 @@ fn unary_name(op: UnaryOp) -> &'static str
 }
 
 /// 2 ^ `scale`, where it is 0 to 3.
-pub fn scale_name(scale: u8) -> &'static str
+pub fn scale_text(scale: u8) -> &'static str
     ensures { result.now ≡ scale_text scale }
 {
     match scale {
@@ -54,7 +55,7 @@ pub fn scale_name(scale: u8) -> &'static str
 }
 
 /// How many bytes an instruction works on, or nothing.
-pub fn width_name(width: Option<Width>) -> &'static str
+pub fn width_text(width: Option<Width>) -> &'static str
     ensures { result.now ≡ width_text width }
 {
     match width {
@@ -66,16 +67,16 @@ pub fn width_name(width: Option<Width>) -> &'static str
 }
 
 /// What stands before the name.
-pub fn lock_name(lock: bool) -> &'static str
+pub fn lock_text(lock: bool) -> &'static str
     ensures { result.now ≡ lock_text lock }
 {
     if lock { "lock " } else { "" }
 }
 
 /// The name of an instruction, without its width.
-#[tactic(auto, unfolding(erim_defs::specs::Notation::written))]
+#[tactic(auto, unfolding(erim_defs::specs::Encoding::Notation::notation_of))]
 pub fn insn_name(insn: &Insn) -> &'static str
-    ensures { result.now ≡ (written insn.now).name }
+    ensures { result.now ≡ (notation_of insn.now).name }
 {
     match *insn {
         Insn::Alu { op, .. } => alu_name(op),

@@ -1,12 +1,14 @@
 //! Writes the operands of instructions.
 
 ghost use Rattle.std.specs.Prelude.{◌≡◌, ◌++◌, OnOk, codes};
-ghost use Rattle.erim_defs.specs.Notation.{register_text, base_text, index_text, displacement_text, memory_text, place_text, operands_text};
+ghost use Rattle.erim_defs.specs.Encoding.Notation.{register_text, base_text, index_text};
+ghost use Rattle.erim_defs.specs.Encoding.Notation.{displacement_text, memory_text, place_text};
+ghost use Rattle.erim_defs.specs.Encoding.Notation.{operands_text};
 ghost use Rattle.x86_text.specs.Operands.{operand_text, operand_texts};
 
-use crate::names::scale_name;
-use crate::parts::{Operand, OperandList};
-use crate::writing::Text;
+use crate::lines::Text;
+use crate::names::scale_text;
+use crate::operand_list::{Operand, OperandList};
 use erim_defs::{Base, Mem, Place};
 use std::io::{Result, Write};
 
@@ -33,7 +35,7 @@ fn put_index(text: &mut Text, index: Option<u8>, scale: u8) -> Result<()>
     match index {
         None => Ok(()),
         Some(number) => {
-            let times = scale_name(scale);
+            let times = scale_text(scale);
             write!(text, "+r{number}*{times}")
         }
     }
@@ -99,7 +101,8 @@ fn put_first(text: &mut Text, operand: Operand) -> Result<()>
 
 /// Operands, with a space before them where there are any.
 pub fn put_operands(text: &mut Text, operands: OperandList) -> Result<()>
-    ensures { OnOk result (text.new.items ≡ text.old.items ++ operands_text (operand_texts operands)) }
+    ensures { OnOk result (text.new.items ≡
+        text.old.items ++ operands_text (operand_texts operands)) }
 {
     match operands {
         OperandList::None => Ok(()),

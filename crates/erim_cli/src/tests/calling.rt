@@ -1,6 +1,6 @@
 //! Calls of the program in the tests.
 
-use crate::plain::erim_plain;
+use crate::top_call::erim_plain;
 use erim_io::{MemSink, MemStore};
 use std::alloc::{AllocError, Global};
 use std::process::Abort;

@@ -2,7 +2,7 @@
 
 use super::calling::{check_call, store, words};
 use super::laying::{RX, laid, page_at};
-use crate::plain::erim_plain;
+use crate::top_call::erim_plain;
 use erim_defs::NoMemory;
 use erim_io::{FileStore, MemSink, Store};
 use std::alloc::Global;

@@ -14,8 +14,8 @@ pub const RW: u32 = 6;
 
 pub const RWX: u32 = 7;
 
-/// A segment whose file part is one page: its address, its flags, bytes from a place of the page on, and how many bytes
-/// it has in memory.
+/// A segment whose file part is one page: its address, its flags, bytes from a place of the page
+/// on, and how many bytes it has in memory.
 #[derive(Clone, Copy)]
 pub struct Page<'a> {
     pub at: u64,
@@ -52,7 +52,8 @@ fn part(alloc: Global, page: &Page) -> Result<Part, AllocError>
     })
 }
 
-/// The image of the pages, 63 at most, with a trust note of the marks, 256 at most, where there are any.
+/// The image of the pages, 63 at most, with a trust note of the marks, 256 at most, where there are
+/// any.
 pub fn laid(
     alloc: Global,
     pages: &[Page],

@@ -56,7 +56,8 @@ struct Row<'a> {
     text: &'a str,
 }
 
-/// Runs the row's image, and looks for the text, the status and the length of the journal that was saved.
+/// Runs the row's image, and looks for the text, the status and the length of the journal that was
+/// saved.
 fn check_run(rt: &impl Abort, alloc: Global, row: &Row, entries: usize) -> Result<(), Fail> {
     let image = laid(alloc, row.pages, row.marks, row.entry)?;
     let mut held = store(alloc, image, &[])?;
@@ -145,7 +146,8 @@ fn faults(rt: HostRuntime) -> Result<(), Fail> {
 
 #[test]
 fn an_escape(rt: HostRuntime) -> Result<(), Fail> {
-    // xor eax, eax at the page's end runs into the gate; behind the gate a jump leads back to 0x401FF0.
+    // xor eax, eax at the page's end runs into the gate; behind the gate a jump leads back to
+    // 0x401FF0.
     let outside = Page {
         place: 0xFF0,
         ..page_at(

@@ -2,7 +2,7 @@
 
 ghost use Rattle.std.specs.Prelude.{◌≡◌};
 ghost use Rattle.std.specs.Int.{w32};
-ghost use Rattle.erim_defs.specs.Alu.{alu, flagged};
+ghost use Rattle.erim_defs.specs.Machine.Alu.{alu, flags_of_result};
 ghost use Rattle.erim_defs.specs.declared.machine.Flags.{Flags};
 ghost use Rattle.erim_defs.specs.declared.insn.AluOp.TheVariants.{Xor, Cmp};
 
@@ -17,7 +17,7 @@ pub(crate) struct Outcome {
 
 /// ZF, SF and PF as a result sets them, beside its carry and overflow. PF looks at the low byte.
 fn flagged(value: u32, carry: bool, overflow: bool) -> Flags
-    ensures { result ≡ flagged w32 value carry overflow }
+    ensures { result ≡ flags_of_result w32 value carry overflow }
 {
     Flags {
         cf: carry,
@@ -29,7 +29,7 @@ fn flagged(value: u32, carry: bool, overflow: bool) -> Flags
 }
 
 /// XOR, whatever the flags were.
-#[tactic(auto, unfolding(erim_defs::specs::Alu::alu))]
+#[tactic(auto, unfolding(erim_defs::specs::Machine::Alu::alu))]
 pub(crate) fn xor(a: u32, b: u32) -> Outcome
     ensures value { (flags : Flags) → result.value ≡ (alu Xor w32 a b flags).value }
     ensures flags { (flags : Flags) → result.flags ≡ (alu Xor w32 a b flags).flags }
@@ -42,7 +42,7 @@ pub(crate) fn xor(a: u32, b: u32) -> Outcome
 }
 
 /// CMP: the flags of `a - b`, and `a` itself.
-#[tactic(auto, unfolding(erim_defs::specs::Alu::alu))]
+#[tactic(auto, unfolding(erim_defs::specs::Machine::Alu::alu))]
 pub(crate) fn compare(a: u32, b: u32) -> Outcome
     ensures value { (flags : Flags) → result.value ≡ (alu Cmp w32 a b flags).value }
     ensures flags { (flags : Flags) → result.flags ≡ (alu Cmp w32 a b flags).flags }

@@ -1,12 +1,12 @@
 //! The conditions of jumps.
 
 ghost use Rattle.std.specs.Prelude.{◌≡◌};
-ghost use Rattle.erim_defs.specs.Alu.{condition};
+ghost use Rattle.erim_defs.specs.Machine.Alu.{condition};
 
 use erim_defs::Flags;
 
 /// Does the condition hold? Each odd one denies the one before it.
-#[tactic(auto, unfolding(erim_defs::specs::Alu::condition))]
+#[tactic(auto, unfolding(erim_defs::specs::Machine::Alu::condition))]
 pub(crate) fn condition(c: u8, flags: Flags) -> bool
     ensures { result ≡ condition c flags }
 {

@@ -4,4 +4,5 @@ use Rattle.elf_image.specs.Records.{records_left, table_records}
 use Rattle.elf_image.proofs.lists.spans.Given as goal
 
 abbrev pub invariant-loop-index : goal.invariant-loop-index
-invariant-loop-index l = l.list.items ++ spans_in l.kind (records_left l.bytes l.table l.index) ≡ spans_in l.kind (table_records l.bytes l.table)
+invariant-loop-index l = l.list.items ++ spans_in l.kind (records_left l.bytes l.table l.index)
+    ≡ spans_in l.kind (table_records l.bytes l.table)

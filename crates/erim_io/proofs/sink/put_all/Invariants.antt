@@ -1,4 +1,4 @@
-use Rattle.std.proofs.Common.{length, ◌-◌, ◌≤◌, take}
+use Rattle.std.proofs.Common.{◌≡◌, length, ◌-◌, ◌≤◌, take}
 use Rattle.std.specs.Io.KnownBytes.{Appends}
 use Rattle.erim_io.proofs.sink.put_all.Given as goal
 
@@ -7,6 +7,7 @@ invariant-loop-at g l = record {
   within : l.at ≤ length l.bytes;
   put : Appends (g.K.Sink.written l.initial.sink) (g.K.Sink.written l.sink) (take l.at l.bytes);
   counted : g.K.Sink.faults l.initial.sink ≤ g.K.Sink.faults l.sink;
+  stays : g.K.Sink.faults l.sink ≡ g.K.Sink.faults l.initial.sink;
 }
 
 abbrev pub decreases-loop-at : goal.decreases-loop-at

@@ -1,5 +1,5 @@
 use Rattle.std.proofs.Common.{◌≡◌, ◌+◌, ◌-◌, false}
-use Rattle.erim_defs.specs.Access.{stop, whole}
+use Rattle.erim_defs.specs.Machine.Access.{stop, whole}
 use Rattle.page_store.specs.Answers.{rights_in}
 use Rattle.erim_process.proofs.calls.are_readable.Given as goal
 
@@ -9,4 +9,5 @@ invariant-loop-step g l =
     × (g.P.Memory.bytes l.pages ≡ g.P.Memory.bytes l.initial.pages)
     × (g.P.Memory.frames l.pages ≡ g.P.Memory.frames l.initial.pages)
     × (stop (whole (rights_in (g.P.Memory.seen l.initial.pages))) false l.pkru l.buf l.n
-    ≡ stop (whole (rights_in (g.P.Memory.seen l.initial.pages))) false l.pkru (l.buf + l.step) (l.n - l.step))
+    ≡ stop (whole (rights_in (g.P.Memory.seen l.initial.pages))) false l.pkru (l.buf + l.step)
+    (l.n - l.step))

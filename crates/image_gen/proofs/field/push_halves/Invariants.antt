@@ -1,6 +1,7 @@
 use Rattle.std.proofs.Common.{◌≡◌, ◌++◌, take}
-use Rattle.erim_defs.specs.LayImage.{halves}
+use Rattle.erim_defs.specs.Output.LayImage.{halves}
 use Rattle.image_gen.proofs.field.push_halves.Given as goal
 
 abbrev pub invariant-loop-number : goal.invariant-loop-number
-invariant-loop-number l = l.bytes.items ≡ l.initial.bytes.items ++ halves (take l.number-index l.numbers)
+invariant-loop-number l =
+    l.bytes.items ≡ l.initial.bytes.items ++ halves (take l.number-index l.numbers)

@@ -1,5 +1,6 @@
 use Rattle.std.proofs.Common.{◌∙◌}
-use Rattle.elf_image.proofs.ImageLemmas.{accepted_table, data_value, heaps_value, read_image_is, trust_value}
+use Rattle.elf_image.proofs.ImageLemmas.{accepted_table, data_value, heaps_value, read_image_is}
+use Rattle.elf_image.proofs.ImageLemmas.{trust_value}
 use Rattle.elf_image.proofs.image.Image.from_accepted.Goals as goal
 
 pub segments-requires : goal.segments-requires
@@ -10,13 +11,16 @@ entry_point-requires c = (accepted_table _ c.requires.accepted).header
 
 pub invariant_of-result : goal.invariant_of-result
 invariant_of-result c =
-    let table = read_image_is _ _ _ c.requires.notes (c.records-table.ensures.same c.args.bytes.now) in
+    let table = read_image_is _ _ _ c.requires.notes
+    (c.records-table.ensures.same c.args.bytes.now) in
     rw c.in_ok-from_slice.ensures.items
     record {
       accepted = c.requires.accepted;
       octets = c.requires.octets;
       list_is = c.in_ok-segments.ensures;
-      trust_is = c.trust.view_is ∙ trust_value _ _ _ _ _ table c.in_ok-texts.ensures c.in_ok-entries.ensures c.new-trust.ensures;
+      trust_is = c.trust.view_is
+          ∙ trust_value _ _ _ _ _ table c.in_ok-texts.ensures c.in_ok-entries.ensures
+          c.new-trust.ensures;
       trusted_is = data_value _ _ _ table c.in_ok-spans.ensures;
       heaps_is = heaps_value _ _ _ table c.in_ok-spans-2.ensures;
       entry_is = c.entry_point.ensures;

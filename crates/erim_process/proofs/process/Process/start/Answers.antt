@@ -1,6 +1,7 @@
 use Rattle.std.proofs.Common.{arith}
-use Rattle.erim_process.specs.Replayed.{setup_of}
-use Rattle.erim_process.proofs.StartLemmas.{start_live, start_room, start_tame, start_trusted, replay_start}
+use Rattle.erim_process.specs.ProcessInvariant.{setup_of}
+use Rattle.erim_process.proofs.StartLemmas.{start_live, start_room, start_tame, start_trusted}
+use Rattle.erim_process.proofs.StartLemmas.{replay_start, no_entries}
 use Rattle.erim_process.proofs.RefusedLemmas.{refused_start}
 use Rattle.erim_process.proofs.process.Process.start.Goals as goal
 
@@ -11,11 +12,16 @@ pub invariant_of-result : goal.invariant_of-result
 invariant_of-result c =
     let setup = setup_of c.args.setup in
     record {
-      replayed = replay_start setup c.in_ok-journal.journal.items _ c.in_ok-journal.ensures.items c.in_ok-machine.ensures.state;
-      counted = (let none = c.in_ok-machine.ensures.fresh.0 in let len = c.in_ok-journal.ensures.len in omega (arith, none, len));
+      replayed = replay_start setup c.in_ok-journal.journal.items _ c.in_ok-journal.ensures.items
+          c.in_ok-machine.ensures.state;
+      entries = no_entries c.in_ok-journal.journal.items c.in_ok-journal.ensures.items;
+      counted = (let none = c.in_ok-machine.ensures.fresh.0 in
+          let len = c.in_ok-journal.ensures.len in omega (arith, none, len));
       room = (let e = c.in_ok-journal.ensures.exact in omega (arith, e));
       within = (let none = c.in_ok-machine.ensures.fresh.0 in omega (arith, none));
-      startable = c.startable.ensures setup c.in_ok-machine.ensures.accepted c.in_ok-machine.ensures.octets (start_trusted setup c.in_ok-check_start.ensures) (start_room setup c.in_ok-check_start.ensures);
+      startable = c.startable.ensures setup c.in_ok-machine.ensures.accepted
+          c.in_ok-machine.ensures.octets (start_trusted setup c.in_ok-check_start.ensures)
+          (start_room setup c.in_ok-check_start.ensures);
       tame = start_tame setup c.in_ok-check_start.ensures;
       roomy = c.in_ok-machine.ensures.roomy;
       few = (let one = c.in_ok-machine.ensures.fresh.1 in omega (arith, one));

@@ -1,5 +1,5 @@
 use Rattle.std.proofs.Common.{◌≡◌, ◌-◌, ◌+◌, ◌≤◌, ◌<◌, ◌^◌, ◌*◌}
-use Rattle.erim_defs.specs.Pages.{word}
+use Rattle.erim_defs.specs.Machine.Pages.{word}
 use Rattle.page_store.specs.Answers.{HasBytes}
 use Rattle.page_store.specs.Listed.{list_bytes}
 use Rattle.page_store.proofs.page_list.PageList.number.Given as goal

@@ -1,6 +1,7 @@
-use Rattle.std.proofs.Common.{◌<◌, ◌+◌, ◌/◌, ◌≡◌, arith, sym, ◌∙◌, take, set, add-one, inl, inr, [], length, length-set}
+use Rattle.std.proofs.Common.{◌<◌, ◌+◌, ◌/◌, ◌≡◌, arith, sym, ◌∙◌, take, set, add-one, inl, inr, []}
+use Rattle.std.proofs.Common.{length, length-set}
 use Rattle.std.proofs.Math.Seq.{take-suc-set}
-use Rattle.erim_defs.specs.Access.{whole}
+use Rattle.erim_defs.specs.Machine.Access.{whole}
 use Rattle.page_store.specs.Listed.{list_rights, list_bytes}
 use Rattle.page_store.specs.Answers.{fetch_of}
 use Rattle.page_store.proofs.MapLemmas.{fetch_step, fetch_end, not_published_high, ok_append_nil}
@@ -15,27 +16,37 @@ loop-count-preserved c =
     record {
       within = omega arith;
       size = length-set into i c.byte.result ∙ c.loop-count.invariant.size;
-      so_far = fetch_step (list_rights ps) (list_bytes ps) c.args.addr i 15 (take i into) (take (i + 1) (set into i c.byte.result)) c.byte.result
-          (fetch_of (whole (list_rights ps)) (list_bytes ps) c.args.addr 15) c.loop-count-test.true c.loop-count.invariant.so_far
+      so_far = fetch_step (list_rights ps) (list_bytes ps) c.args.addr i 15 (take i into)
+          (take (i + 1) (set into i c.byte.result)) c.byte.result
+          (fetch_of (whole (list_rights ps)) (list_bytes ps) c.args.addr 15) c.loop-count-test.true
+          c.loop-count.invariant.so_far
           (sym c.is_code.ensures ∙ c.if-is_code.true) c.byte.ensures
           (let e : i + 1 ≡ _ = add-one i in rw e (take-suc-set into i c.byte.result size));
     }
 
 pub returns-else-is_code-clause-answer : goal.returns-else-is_code-clause-answer
 returns-else-is_code-clause-answer c =
-    let ps = c.args.self.now.pages.items in
-    (omega arith, fetch_end (list_rights ps) (list_bytes ps) c.args.addr c.loop-count.count 15 _ _ c.loop-count.invariant.so_far (inr (sym c.is_code.ensures ∙ c.if-is_code.false)))
+    let ps = c.args.self.now.pages.items in (
+      omega arith,
+      fetch_end (list_rights ps) (list_bytes ps) c.args.addr c.loop-count.count 15 _ _
+          c.loop-count.invariant.so_far (inr (sym c.is_code.ensures ∙ c.if-is_code.false)),
+    )
 
 pub returns-after-loop-count-clause-answer : goal.returns-after-loop-count-clause-answer
 returns-after-loop-count-clause-answer c =
-    let ps = c.args.self.now.pages.items in
-    (omega arith, fetch_end (list_rights ps) (list_bytes ps) c.args.addr c.loop-count.count 15 _ _ c.loop-count.invariant.so_far (inl (omega arith)))
+    let ps = c.args.self.now.pages.items in (
+      omega arith,
+      fetch_end (list_rights ps) (list_bytes ps) c.args.addr c.loop-count.count 15 _ _
+          c.loop-count.invariant.so_far (inl (omega arith)),
+    )
 
 pub returns-else-addr-lt-USER_END-clause-answer : goal.returns-else-addr-lt-USER_END-clause-answer
 returns-else-addr-lt-USER_END-clause-answer c =
     let ps = c.args.self.now.pages.items in
     let at : c.args.addr + 0 ≡ c.args.addr = omega arith in (
       omega arith,
-      fetch_end (list_rights ps) (list_bytes ps) c.args.addr 0 15 [] _ (sym (rw at (ok_append_nil _)))
-          (inr (rw at (not_published_high ps (c.args.addr / 4096) c.args.self.now.listed (omega arith)))),
+      fetch_end (list_rights ps) (list_bytes ps) c.args.addr 0 15 [] _
+          (sym (rw at (ok_append_nil _)))
+          (inr (rw at (not_published_high ps (c.args.addr / 4096) c.args.self.now.listed
+          (omega arith)))),
     )

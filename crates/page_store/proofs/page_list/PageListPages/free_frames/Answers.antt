@@ -3,4 +3,5 @@ use Rattle.page_store.proofs.EditLemmas.{list_mapped}
 use Rattle.page_store.proofs.page_list.PageListPages.free_frames.Goals as goal
 
 pub returns : goal.returns
-returns c = let e = list_mapped c.args.self.now.pages.items c.args.self.now.listed in grind (arith, e)
+returns c = let e = list_mapped c.args.self.now.pages.items c.args.self.now.listed in
+    grind (arith, e)

@@ -1,0 +1,253 @@
+-- The faults, segments, records and code of the small image and of ones that differ from it in a
+-- byte, computed. ELF-64, "File header", "Program header" and "Note section"; the trust note is
+-- own.
+use Rattle.std.proofs.Common.{◌≡◌, ℕ, List, [], ◌∷◌, Option, Some, None, take, map, refl}
+use Rattle.std.specs.Prelude.{slice_set}
+use Rattle.erim_defs.specs.declared.fault.ImageFault.{ImageFault}
+use Rattle.erim_defs.specs.declared.fault.ImageFault.TheVariants.{Short, Magic, Class, FileType}
+use Rattle.erim_defs.specs.declared.fault.ImageFault.TheVariants.{Machine, HeaderSize, TooMany}
+use Rattle.erim_defs.specs.declared.fault.ImageFault.TheVariants.{NotStatic, SegmentRange}
+use Rattle.erim_defs.specs.declared.fault.ImageFault.TheVariants.{SharedPage, NoteShape}
+use Rattle.erim_defs.specs.declared.fault.ImageFault.TheVariants.{NoteVersion, BadRecord}
+use Rattle.erim_defs.specs.declared.fault.ImageFault.TheVariants.{TextNotExec, DataRange}
+use Rattle.erim_defs.specs.declared.fault.ImageFault.TheVariants.{EntryNotTrusted, EntryPoint}
+use Rattle.erim_defs.specs.declared.fault.ImageFault.TheVariants.{NotYet}
+use Rattle.erim_defs.specs.declared.segment.Segment.{Segment}
+use Rattle.erim_defs.specs.Inspection.Image.{number_at, headers_from, headers, loadable_segments}
+use Rattle.erim_defs.specs.Inspection.Image.{static_fault}
+use Rattle.erim_defs.specs.Inspection.Image.{range_fault, shared_fault, notes_between}
+use Rattle.erim_defs.specs.Inspection.Image.{note_fault_between}
+use Rattle.erim_defs.specs.Inspection.Image.{note_fault, notes, records_from, records_in}
+use Rattle.erim_defs.specs.Inspection.Image.{record_fault}
+use Rattle.erim_defs.specs.Inspection.Image.{all_pages, text_fault, data_fault, entry_fault}
+use Rattle.erim_defs.specs.Inspection.Image.{head_fault}
+use Rattle.erim_defs.specs.Inspection.Image.{header_fault, segment_fault, trust_fault, later_fault}
+use Rattle.erim_defs.specs.Inspection.Image.{first_fault, segments, image_code, image_trust}
+use Rattle.erim_defs.specs.Inspection.Image.{image_data}
+use Rattle.erim_defs.specs.Inspection.Image.{image_heaps, trusted_code}
+use Rattle.erim_defs.proofs.SmallMachine.{small_image}
+
+-- the small image with another byte
+abbrev with_byte : ℕ → ℕ → List ℕ
+with_byte place value = slice_set small_image place value
+
+-- the first fault by its own name
+fault_of : List ℕ → Option ImageFault
+unfolding small_image number_at headers_from headers loadable_segments static_fault range_fault
+    shared_fault
+    notes_between note_fault_between note_fault notes records_from records_in record_fault all_pages
+    text_fault data_fault entry_fault head_fault header_fault segment_fault trust_fault later_fault
+fault_of image = later_fault image
+
+-- the fault that is told
+told_fault : List ℕ → Option ImageFault
+unfolding fault_of first_fault
+told_fault image = first_fault image
+
+accepted : told_fault small_image ≡ None
+unfolding told_fault
+accepted = refl
+
+-- ---- the first bytes
+
+short :
+    told_fault [] ∷ told_fault (take 63 small_image) ∷ [] ≡ Some (Short 0) ∷ Some (Short 63) ∷ []
+unfolding told_fault
+short = refl
+
+magic :
+    map (λ place. told_fault (with_byte place 9)) (0 ∷ 1 ∷ 2 ∷ 3 ∷ [])
+    ≡ Some Magic ∷ Some Magic ∷ Some Magic ∷ Some Magic ∷ []
+unfolding told_fault
+magic = refl
+
+class :
+    map (λ place. told_fault (with_byte place 9)) (4 ∷ 5 ∷ 6 ∷ [])
+    ≡ Some Class ∷ Some Class ∷ Some Class ∷ []
+unfolding told_fault
+class = refl
+
+-- so far the later ones have one name
+later : told_fault (with_byte 16 3) ≡ Some NotYet
+unfolding told_fault
+later = refl
+
+-- ---- the file header
+
+file_type : fault_of (with_byte 16 3) ≡ Some FileType
+unfolding fault_of
+file_type = refl
+
+machine : fault_of (with_byte 18 3) ≡ Some Machine
+unfolding fault_of
+machine = refl
+
+header_size : fault_of (with_byte 54 57) ≡ Some HeaderSize
+unfolding fault_of
+header_size = refl
+
+too_many : fault_of (with_byte 56 65) ≡ Some (TooMany 65)
+unfolding fault_of
+too_many = refl
+
+-- 64 headers end at 3648
+short_table : fault_of (with_byte 56 64) ≡ Some (Short 652)
+unfolding fault_of
+short_table = refl
+
+-- ---- program headers: header i stands at 64 + 56 * i
+
+not_static :
+    map (λ kind. fault_of (with_byte 120 kind)) (2 ∷ 3 ∷ 7 ∷ [])
+    ≡ Some (NotStatic 1) ∷ Some (NotStatic 1) ∷ Some (NotStatic 1) ∷ []
+unfolding fault_of
+not_static = refl
+
+-- p_offset past the end, p_memsz below p_filesz, p_vaddr too low, and too high
+segment_range :
+    fault_of (with_byte 74 1) ∷ fault_of (with_byte 104 1) ∷ fault_of (with_byte 82 0)
+    ∷ fault_of (with_byte 85 0x80) ∷ []
+    ≡ Some (SegmentRange 0) ∷ Some (SegmentRange 0) ∷ Some (SegmentRange 0) ∷ Some (SegmentRange 0)
+    ∷ []
+unfolding fault_of
+segment_range = refl
+
+-- a PT_LOAD at 0x7FFE9000, on the stack
+on_the_stack :
+    fault_of (slice_set (slice_set (with_byte 81 0x90) 82 0xFE) 83 0x7F) ≡ Some (SegmentRange 0)
+unfolding fault_of
+on_the_stack = refl
+
+-- the last segment has as many pages as are left of 4,080, and one more
+page_limit :
+    let bytes = slice_set (slice_set (with_byte 440 0) 441 0x90) 442 0xFE in
+    fault_of bytes ∷ fault_of (slice_set bytes 440 1) ∷ [] ≡ None ∷ Some (SegmentRange 6) ∷ []
+unfolding fault_of
+page_limit = refl
+
+-- a PT_NOTE past the end
+note_range : fault_of (with_byte 488 125) ≡ Some (SegmentRange 7)
+unfolding fault_of
+note_range = refl
+
+-- the second segment at 0x401000
+shared_page : fault_of (with_byte 137 0x10) ≡ Some (SharedPage 1)
+unfolding fault_of
+shared_page = refl
+
+-- ---- the note, at 528
+
+-- another size of the desc, another count
+note_shape :
+    fault_of (with_byte 532 103) ∷ fault_of (with_byte 552 3) ∷ []
+    ≡ Some (NoteShape 528) ∷ Some (NoteShape 528) ∷ []
+unfolding fault_of
+note_shape = refl
+
+note_version : fault_of (with_byte 548 2) ≡ Some NoteVersion
+unfolding fault_of
+note_version = refl
+
+-- ---- records: record i stands at 556 + 24 * i
+
+-- another kind, another key, a start and a length that aren't multiples of 4096, no length, an
+-- entry with a length
+bad_record :
+    fault_of (with_byte 556 5) ∷ fault_of (with_byte 560 2) ∷ fault_of (with_byte 588 1)
+    ∷ fault_of (with_byte 596 1) ∷ fault_of (with_byte 597 0) ∷ fault_of (with_byte 620 1) ∷ []
+    ≡ Some (BadRecord 0) ∷ Some (BadRecord 0) ∷ Some (BadRecord 1) ∷ Some (BadRecord 1)
+    ∷ Some (BadRecord 1) ∷ Some (BadRecord 2) ∷ []
+unfolding fault_of
+bad_record = refl
+
+-- the heap at 0x406000, where the data is
+overlapping : fault_of (with_byte 637 0x60) ≡ Some (BadRecord 3)
+unfolding fault_of
+overlapping = refl
+
+-- trusted text at 0x405000, which isn't executable, at 0x408000, which is writable too, and in no
+-- segment
+text_range :
+    map (λ x. fault_of (with_byte 565 x)) (0x50 ∷ 0x80 ∷ 0x90 ∷ [])
+    ≡ Some (TextNotExec 0) ∷ Some (TextNotExec 0) ∷ Some (TextNotExec 0) ∷ []
+unfolding fault_of
+text_range = refl
+
+-- trusted data at 0x401000, which is executable, at 0x408000, which is so too, in no segment; it
+-- may be read-only
+data_range :
+    map (λ x. fault_of (with_byte 589 x)) (0x10 ∷ 0x80 ∷ 0x90 ∷ 0x50 ∷ [])
+    ≡ Some (DataRange 1) ∷ Some (DataRange 1) ∷ Some (DataRange 1) ∷ None ∷ []
+unfolding fault_of
+data_range = refl
+
+-- a heap at the same, which may not be read-only, and at 0x404000, which is writable
+heap_range :
+    map (λ x. fault_of (with_byte 637 x)) (0x10 ∷ 0x80 ∷ 0x90 ∷ 0x50 ∷ 0x40 ∷ [])
+    ≡ Some (DataRange 3) ∷ Some (DataRange 3) ∷ Some (DataRange 3) ∷ Some (DataRange 3) ∷ None ∷ []
+unfolding fault_of
+heap_range = refl
+
+-- an entry before trusted text, and behind it
+entry_range :
+    map (λ x. fault_of (with_byte 613 x)) (0x1F ∷ 0x2F ∷ 0x30 ∷ [])
+    ≡ Some (EntryNotTrusted 2) ∷ None ∷ Some (EntryNotTrusted 2) ∷ []
+unfolding fault_of
+entry_range = refl
+
+-- e_entry in a page that isn't executable
+entry_point : fault_of (with_byte 25 0x30) ≡ Some EntryPoint
+unfolding fault_of
+entry_point = refl
+
+-- ---- what is loaded
+
+abbrev segment : ℕ → ℕ → ℕ → ℕ → ℕ → Segment
+segment flags offset vaddr filesz memsz =
+    record { flags = flags; offset = offset; vaddr = vaddr; filesz = filesz; memsz = memsz }
+
+all_segments : segments small_image ≡
+    segment 5 512 0x401000 2 2 ∷ segment 5 514 0x402000 9 4096 ∷ segment 6 523 0x403010 3 0x1001
+    ∷ segment 4 526 0x405000 1 1
+    ∷ segment 6 0 0x406000 0 4096 ∷ segment 6 0 0x407000 0 4096 ∷ segment 7 527 0x408000 1 1 ∷ []
+unfolding fault_of
+all_segments = refl
+
+trust :
+    image_trust small_image
+    ≡ record { texts = record { start = 0x402000; length = 4096 } ∷ []; entries = 0x402007 ∷ [] }
+unfolding fault_of image_trust
+trust = refl
+
+-- notes of alignment 8, of another name and of another type are passed over
+no_trust :
+    map image_trust (with_byte 504 8 ∷ with_byte 540 0x65 ∷ with_byte 536 3 ∷ [])
+    ≡ record { texts = []; entries = [] } ∷ record { texts = []; entries = [] }
+    ∷ record { texts = []; entries = [] } ∷ []
+unfolding fault_of image_trust
+no_trust = refl
+
+data_and_heaps :
+    image_data small_image ∷ image_heaps small_image ∷ []
+    ≡ (record { start = 0x406000; length = 4096 } ∷ [])
+    ∷ (record { start = 0x407000; length = 4096 } ∷ []) ∷ []
+unfolding fault_of image_data image_heaps
+data_and_heaps = refl
+
+-- the pages of executable segments: file bytes, and zeros behind them
+code :
+    map (image_code small_image)
+    (0x400FFF ∷ 0x401001 ∷ 0x401002 ∷ 0x401FFF ∷ 0x402000 ∷ 0x402008 ∷ 0x402009 ∷ 0x403010
+    ∷ 0x408000 ∷ 0x408FFF ∷ 0x409000 ∷ [])
+    ≡ None ∷ Some 0x90 ∷ Some 0 ∷ Some 0 ∷ Some 0xB8 ∷ Some 0x05 ∷ Some 0 ∷ None ∷ Some 0x45
+    ∷ Some 0 ∷ None ∷ []
+unfolding fault_of image_code
+code = refl
+
+-- trusted text alone
+text_code :
+    map (trusted_code small_image)
+    (0x401000 ∷ 0x401FFF ∷ 0x402000 ∷ 0x402FFF ∷ 0x403010 ∷ 0x408000 ∷ [])
+    ≡ None ∷ None ∷ Some 0xB8 ∷ Some 0 ∷ None ∷ None ∷ []
+unfolding fault_of image_code image_trust trusted_code
+text_code = refl

@@ -1,0 +1,66 @@
+-- The texts of inspection and of errors, computed. The texts are from the format.
+use Rattle.std.proofs.Common.{◌≡◌, ℕ, List, [], ◌∷◌, map, refl}
+use Rattle.std.specs.Prelude.{codes}
+use Rattle.std.specs.Fmt.{digits}
+use Rattle.erim_defs.specs.declared.fault.ImageFault.TheVariants.{Short, Magic, Class, FileType}
+use Rattle.erim_defs.specs.declared.fault.ImageFault.TheVariants.{Machine, HeaderSize, TooMany}
+use Rattle.erim_defs.specs.declared.fault.ImageFault.TheVariants.{NotStatic, SegmentRange}
+use Rattle.erim_defs.specs.declared.fault.ImageFault.TheVariants.{SharedPage, NoteShape}
+use Rattle.erim_defs.specs.declared.fault.ImageFault.TheVariants.{NoteVersion, BadRecord}
+use Rattle.erim_defs.specs.declared.fault.ImageFault.TheVariants.{TextNotExec, DataRange}
+use Rattle.erim_defs.specs.declared.fault.ImageFault.TheVariants.{EntryNotTrusted, EntryPoint}
+use Rattle.erim_defs.specs.declared.fault.ImageFault.TheVariants.{NotYet}
+use Rattle.erim_defs.specs.declared.fault.ImageFault.{ImageFault}
+use Rattle.erim_defs.specs.declared.found.Found.{Found}
+use Rattle.erim_defs.specs.declared.found.SeqKind.TheVariants.{Wrpkru}
+use Rattle.erim_defs.specs.Output.Texts.{unsafe_line, inspect_text, fault_text, error_line}
+
+wrpkru : ℕ → Found
+wrpkru a = record { at = a; len = 3; kind = Wrpkru }
+
+text_of_two :
+    inspect_text (wrpkru 0x401001 ∷ wrpkru 0x8000000000000000 ∷ [])
+    ≡ codes "unsafe wrpkru at 0x000000401001\nunsafe wrpkru at 0x8000000000000000\nunsafe 2\n"
+unfolding wrpkru inspect_text unsafe_line digits
+text_of_two = refl
+
+text_of_none : inspect_text [] ≡ codes "unsafe 0\n"
+unfolding inspect_text digits
+text_of_none = refl
+
+error : error_line (codes "words not understood") ≡ codes "erim: words not understood\n"
+unfolding error_line
+error = refl
+
+-- a fault of an image, and its text
+record Row : Type 0 where
+  fault : ImageFault
+  text : List ℕ
+
+abbrev row : ImageFault → List ℕ → Row
+row fault text = record { fault = fault; text = text }
+
+faults : List Row
+faults =
+    row (Short 10) (codes "image short at 10") ∷
+    row Magic (codes "image magic") ∷
+    row Class (codes "image class") ∷
+    row FileType (codes "image type") ∷
+    row Machine (codes "image machine") ∷
+    row HeaderSize (codes "image header size") ∷
+    row (TooMany 65) (codes "image headers 65") ∷
+    row (NotStatic 1) (codes "image header 1 not static") ∷
+    row (SegmentRange 2) (codes "image segment 2 range") ∷
+    row (SharedPage 3) (codes "image segment 3 shares a page") ∷
+    row (NoteShape 528) (codes "image note at 528") ∷
+    row NoteVersion (codes "image note version") ∷
+    row (BadRecord 4) (codes "image record 4") ∷
+    row (TextNotExec 5) (codes "image record 5 text") ∷
+    row (DataRange 6) (codes "image record 6 data") ∷
+    row (EntryNotTrusted 7) (codes "image record 7 entry") ∷
+    row EntryPoint (codes "image entry point") ∷
+    row NotYet (codes "image not yet") ∷ []
+
+fault_texts : map (λ (r : Row). fault_text r.fault) faults ≡ map (λ (r : Row). r.text) faults
+unfolding digits faults
+fault_texts = refl

@@ -1,0 +1,12 @@
+-- What the machine and isolation rest on: pages, accesses, instructions, steps, the start, replays.
+pub mod Pages
+pub mod Access
+pub mod Count
+pub mod Alu
+pub mod Meaning
+pub mod State
+pub mod Calls
+pub mod Step
+pub mod Start
+pub mod Replay
+pub mod Isolation

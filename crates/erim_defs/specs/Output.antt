@@ -1,0 +1,6 @@
+-- What the program reads and writes: words, reports, journals, made images.
+pub mod Texts
+pub mod Words
+pub mod Journal
+pub mod Report
+pub mod LayImage

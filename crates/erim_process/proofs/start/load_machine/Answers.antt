@@ -1,0 +1,36 @@
+use Rattle.std.proofs.Common.{arith, ◌≡◌, ◌∷◌, ◌++◌, [], sum_by, List, sym, ap, ◌∙◌}
+use Rattle.erim_defs.specs.declared.segment.Segment.{Segment}
+use Rattle.erim_defs.specs.declared.machine.Thread.{Thread}
+use Rattle.erim_defs.specs.Inspection.Image.{page_count, segments}
+use Rattle.erim_process.specs.ProcessInvariant.{setup_of}
+use Rattle.erim_process.proofs.SegmentLemmas.{first_rights_is, image_byte_is, frames_needed_is}
+use Rattle.erim_process.proofs.StartLemmas.{loaded_is}
+use Rattle.erim_process.proofs.start.load_machine.Goals as goal
+
+pub load_pages-requires-clause-room : goal.load_pages-requires-clause-room
+load_pages-requires-clause-room c =
+    let image = c.args.setup.now.image in
+    let needed = frames_needed_is image in
+    let enough = c.requires in
+    let has = c.in_ok-pages.ensures.frames in
+    let same : sum_by page_count c.segments.result.now ≡ sum_by page_count (segments image) =
+    ap (λ (ss : List Segment). sum_by page_count ss) c.segments.ensures.list in
+    omega (arith, needed, enough, has, same)
+
+pub returns-clause-state : goal.returns-clause-state
+returns-clause-state c =
+    let setup = setup_of c.args.setup.now in
+    let rights = rw (
+      c.segments.ensures.list,
+      c.trust.ensures,
+      c.trusted_pages.ensures,
+      c.heaps.ensures,
+    ) at c.load_pages.ensures.rights in
+    let bytes = rw (c.bytes.ensures.bytes, c.segments.ensures.list) at c.load_pages.ensures.bytes in
+    let first = c.first_thread.ensures setup (sym c.entry.ensures) (sym c.trust-2.ensures) in
+    loaded_is setup _ _ _ _ (rights ∙ sym (first_rights_is setup)) (bytes
+    ∙ sym (image_byte_is setup.image))
+    (c.in_ok-push.ensures.items
+    ∙ ap (λ (ts : List Thread). ts ++ c.first_thread.result ∷ []) c.in_ok-threads.ensures.items
+    ∙ ap (λ (t : Thread). t ∷ []) first)
+    c.in_ok-output.ensures.items

@@ -1,0 +1,18 @@
+use Rattle.std.proofs.Common.{◌≡◌, ◌≤◌, ◌+◌, ◌-◌, ◌++◌, length, false, None, vec_capacity}
+use Rattle.erim_defs.specs.Machine.Access.{stop, whole}
+use Rattle.erim_defs.specs.Machine.Pages.{bytes_of_range}
+use Rattle.page_store.specs.Answers.{rights_in}
+use Rattle.erim_process.proofs.write_call.write_out.Given as goal
+
+abbrev pub invariant-loop-step : goal.invariant-loop-step
+invariant-loop-step g l =
+    (g.P.Memory.seen l.pages ≡ g.P.Memory.seen l.initial.pages)
+    × (g.P.Memory.bytes l.pages ≡ g.P.Memory.bytes l.initial.pages)
+    × (g.P.Memory.frames l.pages ≡ g.P.Memory.frames l.initial.pages)
+    × (vec_capacity l.initial.output ≤ vec_capacity l.output)
+    × (stop (whole (rights_in (g.P.Memory.seen l.initial.pages))) false l.pkru (l.buf + l.step)
+    (l.n - l.step) ≡ None)
+    × (length l.output.items + (l.n - l.step) ≤ vec_capacity l.output)
+    × (l.output.items ++ bytes_of_range (g.P.Memory.bytes l.initial.pages) (l.buf + l.step)
+    (l.n - l.step) ≡ l.initial.output.items
+    ++ bytes_of_range (g.P.Memory.bytes l.initial.pages) l.buf l.n)

@@ -1,0 +1,122 @@
+//! How a process starts.
+
+ghost use Rattle.std.specs.Prelude.{◌≡◌, ◌≤◌, ◌⊎◌, ◌&&◌, [], Some, None, IfOk, MatchResult, IsTrue};
+ghost use Rattle.std.specs.Prelude.{true, length};
+ghost use Rattle.std.specs.List.{list_any};
+ghost use Rattle.erim_defs.specs.Encoding.Parts.{AreBytes};
+ghost use Rattle.erim_defs.specs.Inspection.Image.{IsAccepted, entry_point, image_trust};
+ghost use Rattle.erim_defs.specs.Inspection.Image.{is_writable, is_executable};
+ghost use Rattle.erim_defs.specs.Machine.State.{Setup as Given};
+ghost use Rattle.erim_defs.specs.Machine.Start.{first_thread, frames_needed, first_state};
+ghost use Rattle.erim_process.specs.Machine.{machine_state, IsRoomy};
+ghost use Rattle.erim_process.specs.ProcessInvariant.{setup_of};
+ghost use Rattle.erim_process.specs.StartFaults.{start_fault};
+
+use crate::image_pages::load_pages;
+use crate::machine::Machine;
+use crate::setup::Setup;
+use crate::start_fault::StartFault;
+use crate::write_call::OUTPUT_LIMIT;
+use erim_defs::page::STACK_START;
+use erim_defs::register::RSP;
+use erim_defs::{Flags, Keys, Segment, Thread, Trust};
+use image_code::ImageCode;
+use page_store::{Memory, PageList};
+use std::alloc::Global;
+
+/// How many threads there may be.
+const THREADS: usize = 16;
+
+/// Is a segment both writable and executable?
+fn has_open_segment(segments: &[Segment]) -> bool
+    ensures { result ≡ list_any (λ s. is_writable s && is_executable s) segments.now }
+{
+    segments
+        .iter()
+        .any(|segment| segment.is_writable() && segment.is_executable())
+}
+
+/// What keeps the image from starting.
+#[tactic(auto, unfolding(crate::specs::StartFaults::start_fault))]
+pub(crate) fn check_start(alloc: Global, setup: &Setup) -> Result<(), StartFault>
+    ensures { MatchResult result (λ _. start_fault (setup_of setup.now) ≡ None)
+        (λ fault. (fault ≡ StartFault.Memory) ⊎ (start_fault (setup_of setup.now) ≡ Some fault)) }
+{
+    let trust = setup.image.trust();
+    let code = ImageCode::lay(alloc, &setup.image)?;
+    let text = code.on_text(alloc, trust)?;
+    if let Some(found) = text.next_unsafe(trust, 0) {
+        return Err(StartFault::TrustedUnsafe { found });
+    }
+    let needed = setup.image.pages() + 16;
+    if setup.frames < needed {
+        return Err(StartFault::TooFewFrames { needed });
+    }
+    let found = code.next_unsafe(trust, 0);
+    if found.is_some() || has_open_segment(setup.image.segments()) {
+        return Err(StartFault::NotYet);
+    }
+    Ok(())
+}
+
+/// The thread that begins: closed, at the entry point, its stack empty.
+#[tactic(auto, unfolding(erim_defs::specs::Machine::Start::first_thread))]
+fn first_thread(entry: u64, trust: &Trust) -> Thread
+    ensures { (setup : Given) → entry_point setup.image ≡ entry
+        → image_trust setup.image ≡ trust.now
+        → result ≡ first_thread setup }
+{
+    let mut regs = [0; 16];
+    regs[RSP as usize] = STACK_START;
+    Thread {
+        regs,
+        rip: entry,
+        flags: Flags {
+            cf: false,
+            pf: false,
+            zf: false,
+            sf: false,
+            of: false,
+        },
+        pkru: trust.closed_value(),
+        origin: None,
+        live: true,
+    }
+}
+
+/// The machine with its image loaded. It takes all its memory here.
+pub(crate) fn load_machine(alloc: Global, setup: &Setup) -> Result<Machine<PageList>, StartFault>
+    requires { frames_needed setup.now.image ≤ setup.now.frames }
+    ensures state { IfOk result
+        (λ machine. machine_state ⟦<PageList as Memory>⟧ (setup_of setup.now) machine
+        ≡ first_state (setup_of setup.now)) }
+    ensures roomy { IfOk result (λ machine. IsRoomy machine) }
+    ensures fresh { IfOk result (λ machine. (machine.steps ≡ 0)
+        × (length machine.threads.items ≡ 1)) }
+    ensures accepted { IfOk result (λ _. IsAccepted setup.now.image) }
+    ensures octets { IfOk result (λ _. AreBytes setup.now.image) }
+    ensures fault { MatchResult result (λ _. IsTrue true) (λ fault. fault ≡ StartFault.Memory) }
+{
+    let image = &setup.image;
+    let mut pages = PageList::new(alloc, setup.frames)?;
+    load_pages(
+        &mut pages,
+        image.bytes(),
+        image.segments(),
+        image.trust(),
+        image.trusted_pages(),
+        image.heaps(),
+    );
+    let mut threads = Vec::with_capacity(alloc, THREADS)?;
+    threads.push(first_thread(image.entry(), image.trust()))?;
+    let output = Vec::with_capacity(alloc, OUTPUT_LIMIT as usize)?;
+    Ok(Machine {
+        pages,
+        threads,
+        keys: Keys::FIRST,
+        output,
+        end: None,
+        steps: 0,
+        escape: None,
+    })
+}

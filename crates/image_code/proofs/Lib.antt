@@ -1,0 +1,4 @@
+pub mod CodeLemmas
+pub mod RangeLemmas
+pub mod TextLemmas
+pub mod UnsafeLemmas

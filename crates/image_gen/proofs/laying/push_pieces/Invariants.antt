@@ -1,9 +1,0 @@
-use Rattle.std.proofs.Common.{◌≡◌, drop, length}
-use Rattle.erim_defs.specs.LayImage.{laid, pieces}
-use Rattle.image_gen.specs.Parts.{part_values}
-use Rattle.image_gen.proofs.laying.push_pieces.Given as goal
-
--- what is left, behind what was appended, gives the whole
-abbrev pub invariant-loop-part : goal.invariant-loop-part
-invariant-loop-part l = laid l.bytes.items (pieces (length l.bytes.items) (part_values (drop l.part-index l.parts)) l.notes)
-    ≡ laid l.initial.bytes.items (pieces (length l.initial.bytes.items) (part_values l.parts) l.notes)

@@ -1,0 +1,46 @@
+use Rattle.std.proofs.Common.{◌∙◌, ap, sym, arith}
+use Rattle.x86_decode.specs.Layout.{layout_of}
+use Rattle.erim_defs.proofs.EncodingLemmas.{window_bytes}
+use Rattle.x86_decode.proofs.LayoutLemmas.{read_so, read_none}
+use Rattle.x86_decode.proofs.positions.locate.Goals as goal
+
+pub overflow_sub-len : goal.overflow_sub-len
+overflow_sub-len c =
+    (read_so c.args.bytes.now c.window_of-window.result.now c.in-Ok.rest.now
+    (c.in-Ok.insn, c.in-Ok._skip, c.in-Ok.sizes.disp, c.in-Ok.sizes.imm)
+    c.window_of-window.ensures
+    (window_bytes c.args.bytes.now c.window_of-window.result.now c.window_of-window.ensures
+    (λ i. omega (arith, c.type_inv.bytes i))) c.in-Ok.ensures).0
+
+pub layout_of-requires : goal.layout_of-requires
+layout_of-requires c =
+    (read_so c.args.bytes.now c.window_of-window.result.now c.in-Ok.rest.now
+    (c.in-Ok.insn, c.in-Ok._skip, c.in-Ok.sizes.disp, c.in-Ok.sizes.imm)
+    c.window_of-window.ensures
+    (window_bytes c.args.bytes.now c.window_of-window.result.now c.window_of-window.ensures
+    (λ i. omega (arith, c.type_inv.bytes i))) c.in-Ok.ensures).1.room
+
+pub returns-in-Ok : goal.returns-in-Ok
+returns-in-Ok c =
+    let k = (read_so c.args.bytes.now c.window_of-window.result.now c.in-Ok.rest.now
+    (c.in-Ok.insn, c.in-Ok._skip, c.in-Ok.sizes.disp, c.in-Ok.sizes.imm)
+    c.window_of-window.ensures
+    (window_bytes c.args.bytes.now c.window_of-window.result.now c.window_of-window.ensures
+    (λ i. omega (arith, c.type_inv.bytes i))) c.in-Ok.ensures).1 in
+    record {
+      encoding = k.encoding;
+      rest = k.rest;
+      sizes = (c.in-Ok.insn, c.in-Ok._skip, c.in-Ok.sizes.disp, c.in-Ok.sizes.imm);
+      format = k.format;
+      long = k.long;
+      parts = k.parts;
+      is = c.layout_of.ensures
+          ∙ ap (λ n. layout_of n c.in-Ok.insn c.in-Ok.sizes.disp c.in-Ok.sizes.imm) (sym k.size);
+    }
+
+pub returns-in-Err : goal.returns-in-Err
+returns-in-Err c =
+    read_none c.args.bytes.now c.window_of-window.result.now c.in-Err.field-0
+    c.window_of-window.ensures
+    (window_bytes c.args.bytes.now c.window_of-window.result.now c.window_of-window.ensures
+    (λ i. omega (arith, c.type_inv.bytes i))) c.in-Err.ensures

@@ -1,0 +1,84 @@
+//! Where an instruction's displacement, immediate and relative offset stand in its bytes.
+
+ghost use Rattle.std.specs.Prelude.{◌≡◌, ◌+◌, ◌≤◌};
+ghost use Rattle.x86_decode.specs.Layout.{part_at, ends_in_relative_offset, layout_of, Locates};
+
+use crate::body::Sizes;
+use crate::decoding::window_of;
+use crate::front::front_at;
+use erim_defs::Insn;
+
+/// So many bytes of an instruction, from a place on.
+#[derive(Clone, Copy, Debug, PartialEq, Eq)]
+pub struct Part {
+    pub at: u8,
+    pub len: u8,
+}
+
+/// Where an instruction's displacement, immediate and relative offset stand in its bytes (SDM
+/// volume 2, "Displacement and immediate bytes").
+#[derive(Clone, Copy, Debug, PartialEq, Eq)]
+pub struct Layout {
+    /// Of its operand in memory.
+    pub displacement: Option<Part>,
+    pub immediate: Option<Part>,
+    /// Of a direct jump or call.
+    pub relative_offset: Option<Part>,
+}
+
+/// So many bytes, if any.
+fn part_at(at: u8, len: u8) -> Option<Part>
+    ensures { result ≡ part_at at len }
+{
+    match len {
+        0 => None,
+        _ => Some(Part { at, len }),
+    }
+}
+
+/// Does a relative offset end the instruction?
+fn ends_in_relative_offset(insn: &Insn) -> bool
+    ensures { result ≡ ends_in_relative_offset insn.now }
+{
+    matches!(
+        insn,
+        Insn::Jcc { .. } | Insn::Jmp { .. } | Insn::Call { .. }
+    )
+}
+
+/// The parts of an instruction of `len` bytes.
+fn layout_of(insn: &Insn, sizes: Sizes, len: u8) -> Layout
+    requires { sizes.disp + sizes.imm ≤ len }
+    ensures { result ≡ layout_of len insn.now sizes.disp sizes.imm }
+{
+    let number = part_at(len - sizes.imm, sizes.imm);
+    let displacement = part_at(len - sizes.imm - sizes.disp, sizes.disp);
+    if ends_in_relative_offset(insn) {
+        Layout {
+            displacement,
+            immediate: None,
+            relative_offset: number,
+        }
+    } else {
+        Layout {
+            displacement,
+            immediate: number,
+            relative_offset: None,
+        }
+    }
+}
+
+/// The layout of the instruction that the bytes begin with; nothing where they begin with none.
+/// Takes no memory.
+pub fn locate(bytes: &[u8]) -> Option<Layout>
+    ensures { Locates bytes.now result }
+{
+    let window = window_of(bytes);
+    match front_at(0, false, false, window) {
+        Ok((insn, _skip, sizes, rest)) => {
+            let len = (window.len() - rest.len()) as u8;
+            Some(layout_of(&insn, sizes, len))
+        }
+        Err(_) => None,
+    }
+}
