@@ -2,7 +2,7 @@
 
 ghost use Rattle.std.specs.Prelude.{◌≡◌, ◌≤◌, ◌<◌, length, IfSome, MatchResult};
 ghost use Rattle.erim_defs.specs.Inspection.Image.{IsAccepted, first_fault, has_class, has_magic};
-ghost use Rattle.erim_defs.specs.Inspection.Image.{head_fault, header_fault};
+ghost use Rattle.erim_defs.specs.Inspection.Image.{head_fault, header_fault, later_fault};
 ghost use Rattle.elf_image.specs.Form.{Checks, ChecksLater, ChecksTrust};
 ghost use Rattle.elf_image.specs.Notes.{HasNotes};
 ghost use Rattle.elf_image.specs.Table.{HasTable};
@@ -84,9 +84,17 @@ fn has_class(bytes: &[u8]) -> bool
         && bytes[EI_VERSION] == EV_CURRENT
 }
 
+/// The fault of an image behind its first bytes, which `read_image` still tells as `NotYet`.
+pub fn later_fault(bytes: &[u8]) -> Option<ImageFault>
+    requires { 64 ≤ length bytes.now }
+    ensures { result ≡ later_fault bytes.now }
+{
+    check_later(bytes).err()
+}
+
 // The rows behind the first, with the notes that they saw.
 #[tactic(auto, using(crate::proofs::RowLemmas::later_header, crate::proofs::RowLemmas::later_segment, crate::proofs::RowLemmas::later_trust, crate::proofs::RowLemmas::later_entry, crate::proofs::RowLemmas::has_table, crate::proofs::RowLemmas::has_notes))]
-pub(crate) fn check_later(bytes: &[u8]) -> Result<NotesSeen, ImageFault>
+fn check_later(bytes: &[u8]) -> Result<NotesSeen, ImageFault>
     requires { 64 ≤ length bytes.now }
     ensures { ChecksLater bytes.now result }
 {

@@ -1,10 +1,11 @@
 //! Reads ELF-64 images: bytes become an `Image`, or the first fault that they have.
 //!
-//! `read_image` is the one way in. The commands that inspect, list and run a program call it on the
-//! bytes of a file, and the crates below them take the image's segments and its trusted part, which
-//! are known to lie where they may. The fault is `first_fault` of `erim_defs`' `Image`, and an
-//! image tells what `segments`, `image_trust`, `image_data` and `image_heaps` there say of its
-//! bytes. The faults are asked in rows, as the definition has them: of the file header
+//! `read_image` is the one way in; `later_fault` names the faults that it doesn't tell apart yet.
+//! The commands that inspect, list and run a program call it on the bytes of a file, and the crates
+//! below them take the image's segments and its trusted part, which are known to lie where they may.
+//! The fault is `first_fault` of `erim_defs`' `Image`, and an image tells what `segments`,
+//! `image_trust`, `image_data` and `image_heaps` there say of its bytes. The faults are asked in
+//! rows, as the definition has them: of the file header
 //! (`image_reader`), of program headers (`header`, `headers`), of notes (`note`, `notes`), and of
 //! records (`record`, `records`, `pages`). What is accepted is kept (`image`, `lists`); all memory
 //! is asked for after the last fault.
@@ -21,9 +22,7 @@ mod notes;
 mod pages;
 mod record;
 mod records;
-#[cfg(test)]
-mod tests;
 
 pub use erim_defs::{ImageFault, Segment, Span, Trust};
 pub use image::Image;
-pub use image_reader::read_image;
+pub use image_reader::{later_fault, read_image};

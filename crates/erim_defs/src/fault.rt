@@ -4,10 +4,11 @@ ghost use Rattle.std.specs.Prelude.{◌≡◌};
 ghost use Rattle.erim_defs.specs.declared.fault.ImageFault.TheVariants.{Memory};
 
 use std::alloc::{AllocError, AllocFailed};
+use std::fmt;
 use thiserror::Error;
 
 /// The first fault of an image, in the order of the variants.
-#[derive(Debug, Drop, Error)]
+#[derive(Drop, Error)]
 pub enum ImageFault {
     /// The bytes end within a header; `at` is how many there are.
     #[error("image short at {at}")]
@@ -66,6 +67,13 @@ pub enum ImageFault {
     /// Memory ran out.
     #[error("out of memory")]
     Memory,
+}
+
+/// As its message: a derived one would be proved arm by arm once more.
+impl fmt::Debug for ImageFault {
+    fn fmt<W: fmt::Write>(&self, f: &mut fmt::Formatter<W>) -> fmt::Result {
+        fmt::Display::fmt(self, f)
+    }
 }
 
 impl From<AllocError> for ImageFault {

@@ -1,14 +1,14 @@
 //! What the inspector looks for: sequences of bytes that write PKRU.
 
 /// Which instruction a sequence of bytes spells.
-#[derive(Clone, Copy, Debug, PartialEq, Eq)]
+#[derive(Clone, Copy, PartialEq, Eq)]
 pub enum SeqKind {
     /// WRPKRU, `0F 01 EF` (SDM volume 2).
     Wrpkru,
 }
 
 /// A sequence that writes PKRU, as it stands in code.
-#[derive(Clone, Copy, Debug, PartialEq, Eq)]
+#[derive(Clone, Copy, PartialEq, Eq)]
 pub struct Found {
     /// The address of its first byte.
     pub at: u64,

@@ -9,7 +9,7 @@
 use crate::insn::Place;
 
 /// A REX byte's bits; none is set where there is no REX.
-#[derive(Clone, Copy, Debug, PartialEq, Eq)]
+#[derive(Clone, Copy)]
 pub struct Rex {
     /// There is one.
     pub any: bool,
@@ -21,7 +21,7 @@ pub struct Rex {
 
 /// What stands before an opcode: legacy prefixes and REX (SDM volume 2, "Instruction prefixes",
 /// "REX prefixes").
-#[derive(Clone, Copy, Debug, PartialEq, Eq)]
+#[derive(Clone, Copy)]
 pub struct Lead {
     /// How many bytes.
     pub skip: u8,
@@ -36,7 +36,7 @@ pub struct Lead {
 
 /// Which instruction a row encodes, and of which operands. An immediate or a relative offset ends
 /// the encoding.
-#[derive(Clone, Copy, Debug, PartialEq, Eq)]
+#[derive(Clone, Copy)]
 pub enum Form {
     Arithmetic(Arithmetic),
     Move(Move),
@@ -46,7 +46,7 @@ pub enum Form {
 }
 
 /// Arithmetic, logic and bits.
-#[derive(Clone, Copy, Debug, PartialEq, Eq)]
+#[derive(Clone, Copy)]
 pub enum Arithmetic {
     /// ADD, OR, ADC, SBB, AND, SUB, XOR or CMP of r/m and reg, to r/m.
     AluMr,
@@ -79,7 +79,7 @@ pub enum Arithmetic {
 }
 
 /// Moves, with extension or on a condition.
-#[derive(Clone, Copy, Debug, PartialEq, Eq)]
+#[derive(Clone, Copy)]
 pub enum Move {
     /// MOV of reg to r/m.
     MovMr,
@@ -116,7 +116,7 @@ pub enum Move {
 }
 
 /// Jumps, calls and the stack.
-#[derive(Clone, Copy, Debug, PartialEq, Eq)]
+#[derive(Clone, Copy)]
 pub enum Flow {
     /// A jump on the condition in the opcode.
     JccD,
@@ -141,7 +141,7 @@ pub enum Flow {
 }
 
 /// Exchanges of r/m and reg.
-#[derive(Clone, Copy, Debug, PartialEq, Eq)]
+#[derive(Clone, Copy)]
 pub enum Exchange {
     /// XCHG, to both.
     XchgMr,
@@ -152,7 +152,7 @@ pub enum Exchange {
 }
 
 /// System instructions, fences and NOP.
-#[derive(Clone, Copy, Debug, PartialEq, Eq)]
+#[derive(Clone, Copy)]
 pub enum System {
     SyscallZo,
     WrpkruZo,
@@ -165,7 +165,7 @@ pub enum System {
 }
 
 /// What a row of the table says beside its opcodes.
-#[derive(Clone, Copy, Debug, PartialEq, Eq)]
+#[derive(Clone, Copy)]
 pub struct Row {
     pub form: Form,
     /// Bytes of the immediate or relative offset that ends it.
@@ -179,7 +179,7 @@ pub struct Row {
 }
 
 /// What an encoding has, but for its immediate.
-#[derive(Clone, Copy, Debug, PartialEq, Eq)]
+#[derive(Clone, Copy)]
 pub struct Fields {
     /// The opcode, without the escape opcode 0F.
     pub op: u8,
@@ -192,7 +192,7 @@ pub struct Fields {
 }
 
 /// Why reading an instruction stops.
-#[derive(Clone, Copy, Debug, PartialEq, Eq)]
+#[derive(Clone, Copy)]
 pub enum Stop {
     /// Nothing that begins so is an instruction.
     Undefined,

@@ -1,7 +1,7 @@
 //! Instructions, what bytes begin with, and what stands at an address of a code.
 
 /// How many bytes an instruction works on.
-#[derive(Clone, Copy, Debug, PartialEq, Eq)]
+#[derive(Clone, Copy, PartialEq, Eq)]
 pub enum Width {
     W1,
     W4,
@@ -9,7 +9,7 @@ pub enum Width {
 }
 
 /// What an address in memory starts from.
-#[derive(Clone, Copy, Debug, PartialEq, Eq)]
+#[derive(Clone, Copy)]
 pub enum Base {
     /// Nothing.
     Zero,
@@ -20,7 +20,7 @@ pub enum Base {
 }
 
 /// A place in memory: base + index * 2^scale + disp.
-#[derive(Clone, Copy, Debug, PartialEq, Eq)]
+#[derive(Clone, Copy)]
 pub struct Mem {
     pub base: Base,
     /// A register, by its number.
@@ -30,7 +30,7 @@ pub struct Mem {
 }
 
 /// Where an operand stands.
-#[derive(Clone, Copy, Debug, PartialEq, Eq)]
+#[derive(Clone, Copy)]
 pub enum Place {
     /// A register, by its number.
     Reg(u8),
@@ -41,7 +41,7 @@ pub enum Place {
 }
 
 /// What an operand is.
-#[derive(Clone, Copy, Debug, PartialEq, Eq)]
+#[derive(Clone, Copy)]
 pub enum Src {
     /// What stands at a place.
     From(Place),
@@ -50,7 +50,7 @@ pub enum Src {
 }
 
 /// Arithmetic and logic of two operands.
-#[derive(Clone, Copy, Debug, PartialEq, Eq)]
+#[derive(Clone, Copy)]
 pub enum AluOp {
     Add,
     Or,
@@ -63,7 +63,7 @@ pub enum AluOp {
 }
 
 /// A shift.
-#[derive(Clone, Copy, Debug, PartialEq, Eq)]
+#[derive(Clone, Copy)]
 pub enum ShiftOp {
     Shl,
     Shr,
@@ -71,7 +71,7 @@ pub enum ShiftOp {
 }
 
 /// Arithmetic and logic of one operand.
-#[derive(Clone, Copy, Debug, PartialEq, Eq)]
+#[derive(Clone, Copy)]
 pub enum UnaryOp {
     Not,
     Neg,
@@ -80,7 +80,7 @@ pub enum UnaryOp {
 }
 
 /// How far to shift.
-#[derive(Clone, Copy, Debug, PartialEq, Eq)]
+#[derive(Clone, Copy)]
 pub enum By {
     /// By an immediate.
     Count(u8),
@@ -90,7 +90,7 @@ pub enum By {
 
 /// An instruction. Registers and conditions go by their numbers, `rel` is the relative offset from
 /// the next instruction, and `lock` says whether F0 stands before it.
-#[derive(Clone, Copy, Debug, PartialEq, Eq)]
+#[derive(Clone, Copy)]
 pub enum Insn {
     /// Arithmetic and logic of two operands.
     Alu {
@@ -262,7 +262,7 @@ pub enum Insn {
 }
 
 /// What bytes begin with.
-#[derive(Clone, Copy, Debug, PartialEq, Eq)]
+#[derive(Clone, Copy)]
 pub enum Decoded {
     /// An instruction of so many bytes, `skip` of them before its opcode.
     Insn { insn: Insn, len: u8, skip: u8 },
@@ -273,7 +273,7 @@ pub enum Decoded {
 }
 
 /// What stands at an address of a code.
-#[derive(Clone, Copy, Debug, PartialEq, Eq)]
+#[derive(Clone, Copy)]
 pub enum FetchOutcome {
     /// An instruction of so many bytes, `skip` of them before its opcode.
     Runs { insn: Insn, len: u8, skip: u8 },

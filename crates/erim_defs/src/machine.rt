@@ -7,7 +7,7 @@ ghost use Rattle.erim_defs.specs.Machine.Pages.{asks_exec, asks_write, published
 use crate::found::Found;
 
 /// The rights of a mapped page. `asked` is below 8 and `key` below 16.
-#[derive(Clone, Copy, Debug, PartialEq, Eq)]
+#[derive(Clone, Copy, PartialEq, Eq)]
 pub struct Rights {
     /// May it be read?
     pub read: bool,
@@ -49,7 +49,7 @@ impl Rights {
 }
 
 /// Which protection keys are allocated: key k where bit k is set. Keys are below 16.
-#[derive(Clone, Copy, Debug, PartialEq, Eq)]
+#[derive(Clone, Copy, PartialEq, Eq)]
 pub struct Keys {
     pub taken: u16,
 }
@@ -60,7 +60,7 @@ impl Keys {
 }
 
 /// The flags that instructions compute (SDM volume 1, "EFLAGS register").
-#[derive(Clone, Copy, Debug, PartialEq, Eq)]
+#[derive(Clone, Copy, PartialEq, Eq)]
 pub struct Flags {
     pub cf: bool,
     pub pf: bool,
@@ -70,7 +70,7 @@ pub struct Flags {
 }
 
 /// A thread. Registers are RAX RCX RDX RBX RSP RBP RSI RDI R8 to R15.
-#[derive(Clone, Copy, Debug, PartialEq, Eq)]
+#[derive(Clone, Copy, PartialEq, Eq)]
 pub struct Thread {
     pub regs: [u64; 16],
     pub rip: u64,
@@ -84,7 +84,7 @@ pub struct Thread {
 }
 
 /// Why an instruction, an access or a fetch faults.
-#[derive(Clone, Copy, Debug, PartialEq, Eq)]
+#[derive(Clone, Copy, PartialEq, Eq)]
 pub enum Cause {
     /// No page is mapped there, or it is no user address.
     Unmapped,
@@ -103,7 +103,7 @@ pub enum Cause {
 }
 
 /// Why an access stops.
-#[derive(Clone, Copy, Debug, PartialEq, Eq)]
+#[derive(Clone, Copy, PartialEq, Eq)]
 pub enum Access {
     /// It faults, at this address.
     Fault { cause: Cause, addr: u64 },
@@ -112,7 +112,7 @@ pub enum Access {
 }
 
 /// How a process ends.
-#[derive(Clone, Copy, Debug, PartialEq, Eq)]
+#[derive(Clone, Copy, PartialEq, Eq)]
 pub enum End {
     /// By its own call.
     Exit {
@@ -134,7 +134,7 @@ pub enum End {
 }
 
 /// The first step by which a thread left trusted text open and other than by a gate.
-#[derive(Clone, Copy, Debug, PartialEq, Eq)]
+#[derive(Clone, Copy, PartialEq, Eq)]
 pub struct Escape {
     /// The step, counted from 1.
     pub step: u32,
@@ -144,7 +144,7 @@ pub struct Escape {
 }
 
 /// So many steps of a thread, made by a worker.
-#[derive(Clone, Copy, Debug, PartialEq, Eq)]
+#[derive(Clone, Copy, PartialEq, Eq)]
 pub struct Entry {
     pub worker: u16,
     pub thread: u16,

@@ -10,7 +10,7 @@ use crate::elf::{PF_W, PF_X};
 use crate::page::{LOWEST_ADDRESS, PAGE_SIZE, STACK_END_PAGE, STACK_PAGE, USER_END};
 
 /// A loadable segment, as its program header tells it (ELF-64, "Program header").
-#[derive(Clone, Copy, Debug, PartialEq, Eq)]
+#[derive(Clone, Copy, PartialEq, Eq)]
 pub struct Segment {
     /// The address of its first byte.
     pub vaddr: u64,

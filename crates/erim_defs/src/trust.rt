@@ -7,7 +7,7 @@ ghost use Rattle.erim_defs.specs.Inspection.Trust.{in_text_of, is_entry_of};
 use std::marker::Model;
 
 /// A range of addresses.
-#[derive(Clone, Copy, Debug, PartialEq, Eq)]
+#[derive(Clone, Copy, PartialEq, Eq)]
 pub struct Span {
     /// Its first address.
     pub start: u64,

@@ -1,8 +1,8 @@
 //! A store over the system's files.
 
 ghost use Rattle.std.specs.Prelude.{◌≡◌, ◌≤◌, [], None, map, length, string_bytes, OnOk, OnErr};
-ghost use Rattle.std.specs.Prelude.{IfErr};
-ghost use Rattle.std.specs.Io.KnownBytes.{Appends, Consumes, IsAtEnd};
+ghost use Rattle.std.specs.Prelude.{IfErr, IfSome};
+ghost use Rattle.std.specs.Io.KnownBytes.{Appends};
 ghost use Rattle.erim_io.specs.Store.{IsTooLong};
 ghost use Rattle.erim_io.specs.declared.store.SaveFault.TheVariants as saves;
 ghost use Rattle.erim_io.specs.FileStore.{FileStoreValue, HasMore};
@@ -14,9 +14,6 @@ use std::fs::{self, OpenFile};
 use std::io::{ErrorKind, Read, Write};
 use std::marker::Model;
 use std::rt::Files;
-
-// How many bytes one read asks for.
-const PIECE: usize = 16 * 1024;
 
 /// The system's files.
 #[derive(Drop)]
@@ -99,8 +96,8 @@ fn write_file<R: Files>(rt: &R, name: &str, bytes: &[u8]) -> Result<(), SaveFaul
     write_whole(&mut file, bytes)
 }
 
-// Writes all of the bytes, or fails.
-pub(crate) fn write_whole<F: Write>(file: &mut F, bytes: &[u8]) -> Result<(), SaveFault>
+/// Writes all of the bytes, or fails.
+pub fn write_whole<F: Write>(file: &mut F, bytes: &[u8]) -> Result<(), SaveFault>
     ensures whole { OnOk result (Appends (F.contents file.old) (F.contents file.new) bytes.now) }
     ensures failed { IfErr result (λ fault. fault ≡ saves.Failed) }
 {
@@ -113,41 +110,28 @@ fn read_file<R: Files>(rt: &R, name: &str, limit: u64, into: &mut Vec<u8>) -> Re
     ensures within { OnOk result (length into.new.items ≤ limit) }
     ensures too_large { IfErr result (IsTooLong None name.now limit) }
 {
-    let mut file = fs::open(rt, name).map_err(|_| LoadFault::Failed)?;
+    let file = fs::open(rt, name).map_err(|_| LoadFault::Failed)?;
     let length = file.metadata().map_err(|_| LoadFault::Failed)?.len();
     if length > limit {
         return Err(LoadFault::TooLarge { length });
     }
-    read_within(&mut file, limit, into)
+    read_within(file, limit, into)
 }
 
-// Reads to the end, or one byte past the limit where the file grew.
-pub(crate) fn read_within<F: Read>(
-    file: &mut F,
-    limit: u64,
-    into: &mut Vec<u8>,
-) -> Result<(), LoadFault>
+/// Reads to the end, or one byte past the limit where there are more.
+pub fn read_within<F: Read + Drop>(file: F, limit: u64, into: &mut Vec<u8>) -> Result<(), LoadFault>
     requires { into.old.items ≡ [] }
-    ensures read { OnOk result (Consumes (F.remaining file.old) (F.remaining file.new)
-        into.new.items) }
-    ensures end { OnOk result (IsAtEnd (F.remaining file.new)) }
-    ensures more { IfErr result (HasMore (F.remaining file.old) limit) }
+    ensures whole { OnOk result (IfSome (F.remaining file) (λ bytes. into.new.items ≡ bytes)) }
+    ensures more { IfErr result (HasMore (F.remaining file) limit) }
     ensures within { OnOk result (length into.new.items ≤ limit) }
     ensures too_large { IfErr result (IsTooLong None [] limit) }
 {
-    let mut piece = [0; PIECE];
-    for _ in 0..u64::MAX {
-        let left = limit - into.len() as u64;
-        let most = left.saturating_add(1).min(PIECE as u64) as usize;
-        match file.read(&mut piece[..most]) {
-            Ok(0) => return Ok(()),
-            Ok(count) if count as u64 > left => return Err(grown(limit)),
-            Ok(count) => into.extend_from_slice(&piece[..count])?,
-            Err(error) if error.kind() == ErrorKind::Interrupted => {}
-            Err(_) => return Err(LoadFault::Failed),
-        }
+    match file.take(limit.saturating_add(1)).read_to_end(into) {
+        Ok(_) if into.as_slice().len() as u64 > limit => Err(grown(limit)),
+        Ok(_) => Ok(()),
+        Err(error) if error.kind() == ErrorKind::OutOfMemory => Err(LoadFault::Memory),
+        Err(_) => Err(LoadFault::Failed),
     }
-    Err(LoadFault::Failed)
 }
 
 // The fault of a file that has one byte more than the limit.

@@ -6,7 +6,7 @@ ghost use Rattle.std.specs.Io.KnownBytes.{Appends, Keeps};
 ghost use Rattle.erim_io.specs.Sink.{HasRisen, AppendsPart};
 
 /// A put failed.
-#[derive(Debug, Clone, Copy, PartialEq, Eq)]
+#[derive(Clone, Copy, Debug, PartialEq, Eq)]
 pub struct Failed;
 
 /// Where output goes. A put that fails is counted; `written` is what the sink tells of its bytes.

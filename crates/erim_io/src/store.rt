@@ -10,7 +10,7 @@ ghost use Rattle.erim_io.specs.Store.{LeavesHeld};
 use std::alloc::{AllocError, AllocFailed};
 
 /// Why a load was refused.
-#[derive(Debug, Clone, Copy, PartialEq, Eq)]
+#[derive(Clone, Copy, Debug, PartialEq, Eq)]
 pub enum LoadFault {
     /// The file isn't there, or reading it failed.
     Failed,
@@ -29,7 +29,7 @@ impl From<AllocError> for LoadFault {
 }
 
 /// Why a save was refused.
-#[derive(Debug, Clone, Copy, PartialEq, Eq)]
+#[derive(Clone, Copy, Debug, PartialEq, Eq)]
 pub enum SaveFault {
     /// The file couldn't be written whole. What stands under its name isn't known.
     Failed,

@@ -106,6 +106,3 @@ pub(crate) fn exec(insn: &Insn, len: u8, thread: &mut Thread) -> Exec
         _ => Exec::Refuse,
     }
 }
-
-#[cfg(test)]
-mod tests;

@@ -4,8 +4,8 @@
 //! and writes it into the journal. A process' value is its setup and its journal: `state_of`
 //! replays them, and every view (`rights`, `word`, `thread`, `output`, `end`, `escape`) is told by
 //! that state. Steps meet `step`, the start `first_state` and `start_fault`, and the kept facts are
-//! `IsReplay` and what `isolation` proves of every run. `erim_cli`'s `run` calls it; `check_start`
-//! asks `image_code` for the first unsafe sequence of the code and of trusted text.
+//! `IsReplay` and what `isolation` proves of every run. `erim_commands`' `run` calls it;
+//! `check_start` asks `image_code` for the first unsafe sequence of the code and of trusted text.
 #![tactic(auto)]
 
 mod calls;
@@ -27,6 +27,3 @@ pub use process::Process;
 pub use setup::Setup;
 pub use start_fault::StartFault;
 pub use stepped::Stepped;
-
-#[cfg(test)]
-mod tests;

@@ -7,7 +7,7 @@ use erim_defs::{Found, NoMemory};
 use std::alloc::{AllocError, AllocFailed};
 
 /// Why an image can't start.
-#[derive(Debug, Clone, Copy, PartialEq, Eq)]
+#[derive(Clone, Copy, PartialEq, Eq)]
 pub enum StartFault {
     /// Trusted text by itself holds something unsafe, first this.
     TrustedUnsafe { found: Found },

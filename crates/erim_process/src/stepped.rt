@@ -1,7 +1,7 @@
 //! What a step answers.
 
 /// What a step answers.
-#[derive(Debug, Clone, Copy, PartialEq, Eq)]
+#[derive(Clone, Copy, PartialEq, Eq)]
 pub enum Stepped {
     /// One step was made.
     Made,

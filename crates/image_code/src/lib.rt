@@ -13,6 +13,3 @@ mod stretch;
 mod texts;
 
 pub use code::ImageCode;
-
-#[cfg(test)]
-mod tests;

@@ -16,6 +16,3 @@ mod part;
 
 pub use image::lay_image;
 pub use part::{Mark, Part};
-
-#[cfg(test)]
-mod tests;

@@ -1,7 +1,7 @@
 //! What an image is made of.
 
 /// A part of a program, which becomes a loadable segment.
-#[derive(Debug, Drop)]
+#[derive(Drop)]
 pub struct Part {
     /// The address of its first byte.
     pub vaddr: u64,
@@ -14,7 +14,7 @@ pub struct Part {
 }
 
 /// A record of the trust note. Its key is 1.
-#[derive(Clone, Copy, Debug, PartialEq, Eq)]
+#[derive(Clone, Copy, PartialEq, Eq)]
 pub struct Mark {
     /// 1 trusted text, 2 trusted data, 3 entry, 4 trusted heap.
     pub kind: u32,

@@ -15,6 +15,3 @@ mod page_list;
 pub use copy::PageCopy;
 pub use memory::{Memory, Pages};
 pub use page_list::PageList;
-
-#[cfg(test)]
-mod tests;

@@ -13,6 +13,3 @@ mod scan;
 
 pub use safe::is_safe;
 pub use scan::next_sequence;
-
-#[cfg(test)]
-mod tests;

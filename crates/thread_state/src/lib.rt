@@ -38,6 +38,3 @@ pub fn may_write(pkru: u32, rights: &Rights) -> bool
 {
     rights.write && (pkru >> (2 * rights.key as u32)) % 4 == 0
 }
-
-#[cfg(test)]
-mod tests;

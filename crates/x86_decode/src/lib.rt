@@ -19,8 +19,6 @@ mod front;
 mod opcode_map;
 mod operand;
 mod positions;
-#[cfg(test)]
-mod tests;
 
 pub use decoding::{decode, decode_is_exact, prefix_free};
 pub use positions::{Layout, Part, locate};

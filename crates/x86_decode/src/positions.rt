@@ -9,7 +9,7 @@ use crate::front::front_at;
 use erim_defs::Insn;
 
 /// So many bytes of an instruction, from a place on.
-#[derive(Clone, Copy, Debug, PartialEq, Eq)]
+#[derive(Clone, Copy, PartialEq, Eq)]
 pub struct Part {
     pub at: u8,
     pub len: u8,
@@ -17,7 +17,7 @@ pub struct Part {
 
 /// Where an instruction's displacement, immediate and relative offset stand in its bytes (SDM
 /// volume 2, "Displacement and immediate bytes").
-#[derive(Clone, Copy, Debug, PartialEq, Eq)]
+#[derive(Clone, Copy, PartialEq, Eq)]
 pub struct Layout {
     /// Of its operand in memory.
     pub displacement: Option<Part>,

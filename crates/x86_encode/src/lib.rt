@@ -15,7 +15,5 @@ mod encoding;
 mod kinds;
 mod opcodes;
 mod operand;
-#[cfg(test)]
-mod tests;
 
 pub use encoding::encode;

@@ -13,7 +13,5 @@ mod lines;
 mod names;
 mod operand_list;
 mod operands;
-#[cfg(test)]
-mod tests;
 
 pub use lines::line;

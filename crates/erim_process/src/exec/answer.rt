@@ -1,7 +1,7 @@
 //! What comes of an instruction.
 
 /// What comes of an instruction that looks at no memory.
-#[derive(Clone, Copy, Debug, PartialEq, Eq)]
+#[derive(Clone, Copy, PartialEq, Eq)]
 pub(crate) enum Exec {
     /// The thread is as the instruction leaves it.
     Done,

@@ -9,7 +9,7 @@ ghost use Rattle.erim_defs.specs.declared.insn.AluOp.TheVariants.{Xor, Cmp};
 use erim_defs::Flags;
 
 /// A result, and the flags after it.
-#[derive(Clone, Copy, Debug, PartialEq, Eq)]
+#[derive(Clone, Copy, PartialEq, Eq)]
 pub(crate) struct Outcome {
     pub(crate) value: u32,
     pub(crate) flags: Flags,

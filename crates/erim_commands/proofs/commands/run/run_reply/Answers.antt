@@ -1,0 +1,42 @@
+use Rattle.std.proofs.Common.{◌≡◌, ◌∙◌, ap, sym, subst, Option, List}
+use Rattle.erim_defs.specs.declared.machine.End.{End}
+use Rattle.erim_defs.specs.declared.machine.Entry.{Entry}
+use Rattle.erim_defs.specs.Output.Journal.{IsJournal, journal_text}
+use Rattle.erim_defs.specs.Machine.State.{Setup}
+use Rattle.erim_process.specs.ProcessValue.{state_of}
+use Rattle.erim_commands.specs.Replies.{end_status, journal_of}
+use Rattle.erim_commands.proofs.ReportLemmas.{run_replied}
+use Rattle.erim_commands.proofs.commands.run.run_reply.Goals as goal
+
+pub write_journal-requires : goal.write_journal-requires
+write_journal-requires c =
+    let P : Setup → Type 0 = λ s. IsJournal (journal_of s c.journal.result.now) in
+    subst P (sym c.setup-setup.ensures.value) c.journal.ensures.form
+
+pub returns : goal.returns
+returns c =
+    let p = c.finish.new.process in
+    let status = c.end_status.ensures
+    ∙ ap (λ (end : Option End). end_status end) c.end.ensures.value in
+    let text = c.in_ok-text.ensures in
+    let entries = c.journal.ensures.entries in
+    let setup = c.setup-setup.ensures.value in
+    let bytes : c.in_ok-bytes.bytes.items ≡ journal_text (journal_of p.setup p.journal) =
+    c.in_ok-bytes.ensures ∙ ap (λ (es : List Entry). journal_text
+    (record {
+      budget = c.setup-setup.result.now.budget;
+      frames = c.setup-setup.result.now.frames;
+      entries = es;
+    })) entries
+    ∙ ap (λ (s : Setup). journal_text (journal_of s p.journal)) setup in
+    let Q : List Entry → Type 0 = λ es. IsJournal (journal_of p.setup es) in
+    run_replied c.args.process.now.setup p.setup c.args.journal.now p.journal (state_of p) _ _ _
+    c.finish.ensures.setup
+    (record {
+      runs = c.journal.ensures.run;
+      over = c.finish.ensures.over;
+      form = subst Q entries c.journal.ensures.form;
+      alone = c.finish.ensures.alone;
+      isolated = c.setup-setup.ensures.isolated;
+    })
+    status text bytes

@@ -1,0 +1,76 @@
+-- What the parts of a call do: a put, a save, a load, and the steps of a plan. Own.
+use Rattle.std.specs.Prelude.{◌≡◌, ◌⊎◌, ◌≤◌, ⊤, ℕ, Option, Some, None, Result, Ok, Err, List}
+use Rattle.std.specs.Prelude.{length, Vec}
+use Rattle.std.specs.Io.KnownBytes.{Appends}
+use Rattle.erim_io.specs.Store.{Name, Files, Holds, noted_save, LeavesHeld}
+use Rattle.erim_io.specs.Sink.{HasRisen, AppendsPart}
+use Rattle.erim_io.specs.declared.store.SaveFault.{SaveFault}
+use Rattle.erim_defs.specs.declared.memory.NoMemory.{NoMemory}
+use Rattle.erim_commands.specs.declared.reply.Reply.{Reply as Made}
+use Rattle.erim_commands.specs.declared.reply.Save.{Save as File}
+use Rattle.erim_commands.specs.Replies.{Saved, Reply, Answer, IsAnswer}
+use Rattle.erim_commands.specs.Plans.{Plan, Ask, Tell}
+use Rattle.erim_commands.specs.Delivery.{World, IsUntouched, HasNotLoaded, Delivers, HoldsMore}
+use Rattle.erim_commands.specs.Delivery.{Carries}
+
+-- ---- a reply of the code
+
+abbrev pub save_of : Option File → Option Saved
+save_of None = None
+save_of (Some file) = Some (record { name = file.name.now; bytes = file.bytes.items })
+
+abbrev pub reply_of : Made → Reply
+reply_of r = record { status = r.status; text = r.text.items; save = save_of r.save }
+
+-- ---- puts, saves and loads
+
+-- a text was put: whole, and the count of faults stays, with its status; or a prefix with status 4,
+-- and the count rose
+abbrev pub Puts : ℕ → List ℕ → Option (List ℕ) → Option (List ℕ) → ℕ → ℕ → ℕ → Type 0
+Puts status text old new faults_old faults_new result =
+    ((result ≡ status) × Appends old new text × (faults_new ≡ faults_old))
+    ⊎ ((result ≡ 4) × AppendsPart old new text × HasRisen faults_old faults_new)
+
+-- a reply's file was to be saved
+abbrev pub SavesHeld : Option Saved → Result (Unit {0}) SaveFault → Option Files → Option Files
+    → Type 0
+SavesHeld None result old new = (result ≡ Ok tt) × (new ≡ old)
+SavesHeld (Some file) result old new = LeavesHeld result file.name file.bytes old new
+
+-- the names of the failed saves then
+abbrev pub noted_file : Option Saved → Result (Unit {0}) SaveFault → List Name → List Name
+noted_file None result names = names
+noted_file (Some file) result names = noted_save result file.name names
+
+-- a file was loaded, which changed nothing; or the call ended without it
+abbrev pub Loads : {Z : Type 0} → Name → ℕ → Reply → World → World → Result (Vec ℕ Z) ℕ → Type 0
+Loads name limit too_large old new (Ok bytes) =
+    (new ≡ old) × Holds old.held name (Some bytes.items) × (length bytes.items ≤ limit)
+Loads name limit too_large old new (Err status) =
+    (HoldsMore name limit old.held × Delivers too_large old new status)
+    ⊎ (((status ≡ 4) × HasNotLoaded name old new)
+    ⊎ ((status ≡ 5) × IsUntouched old new))
+
+-- ---- steps of plans
+
+-- the plan loads nothing more, and may answer this
+abbrev pub EndsAs : Plan Answer → Reply → Type 0
+EndsAs (Tell a) reply = IsAnswer a reply
+EndsAs (Ask name limit too_large next) reply = ⊥
+
+-- a reply that was made, or want of memory
+abbrev pub IsMadeFor : Plan Answer → Result Made NoMemory → Type 0
+IsMadeFor plan (Ok made) = EndsAs plan (reply_of made)
+IsMadeFor plan (Err none) = ⊤
+
+-- a step that loads and reads a file: it gave the bytes and changed nothing, and what then carries
+-- out the rest carries out the whole; or it carried out the whole, whatever was to follow
+abbrev pub Passes : ((List ℕ → Plan Answer) → Plan Answer) → World → World → Result (List ℕ) ℕ
+    → Type 0
+Passes step old new (Ok bytes) =
+    (new ≡ old)
+    × ((next : List ℕ → Plan Answer) (later : World) (status : ℕ)
+    → Carries IsAnswer (next bytes) old later status
+    → Carries IsAnswer (step next) old later status)
+Passes step old new (Err status) =
+    (next : List ℕ → Plan Answer) → Carries IsAnswer (step next) old new status

@@ -1,0 +1,37 @@
+//! The commands, each in a file of its own.
+
+ghost use Rattle.erim_commands.specs.Commands.{HasNumbers, meaning, plan_of};
+ghost use Rattle.erim_commands.specs.Delivery.{Carries, world};
+ghost use Rattle.erim_commands.specs.Replies.{IsAnswer};
+
+mod disasm;
+mod inspect;
+pub mod run;
+
+use crate::words::Command;
+use erim_io::{Sink, Store};
+use std::alloc::Global;
+
+/// Does a command.
+pub fn carry_out<S: Store, K: Sink>(
+    alloc: Global,
+    command: &Command,
+    store: &mut S,
+    out: &mut K,
+) -> u8
+    requires { HasNumbers command.now }
+    ensures { let old = world S.Store K.Sink store.old out.old in
+        let new = world S.Store K.Sink store.new out.new in
+        Carries IsAnswer (plan_of (meaning command.now)) old new result }
+{
+    match *command {
+        Command::Inspect { image } => inspect::inspect(alloc, image, store, out),
+        Command::Disasm { image } => disasm::disasm(alloc, image, store, out),
+        Command::Run {
+            image,
+            journal,
+            steps,
+            frames,
+        } => run::run(alloc, image, journal, steps, frames, store, out),
+    }
+}

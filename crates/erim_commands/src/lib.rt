@@ -1,0 +1,22 @@
+//! The commands of `erim`, and the top call `erim_plain` that does what the program's words say.
+//!
+//! The program gives its words, a store of files and an output to `erim_plain`, which does all that
+//! the program does; tests call it over files and output in memory. Each command has a plan of what
+//! it loads and what it answers (`specs/Commands.antt`), and `erim_plain` ensures that the plan of
+//! the words' command was carried out, and what each status tells of files and output
+//! (`specs/Promises.antt`). A reply's file is saved before its text is put (`specs/Delivery.antt`).
+#![tactic(auto)]
+
+mod commands;
+mod delivery;
+mod journal;
+mod loads;
+mod reply;
+mod report;
+mod schedule;
+mod text;
+mod top_call;
+mod words;
+
+pub use reply::OUT_OF_MEMORY;
+pub use top_call::erim_plain;

@@ -1,0 +1,94 @@
+//! Loads the files of commands and reads them. Where that fails, its line is put.
+
+ghost use Rattle.std.specs.Prelude.{◌≡◌, ◌≢◌, ℕ, List, IfOk};
+ghost use Rattle.std.specs.String.{string_bytes};
+ghost use Rattle.erim_defs.specs.Output.Texts.{error_line, fault_text};
+ghost use Rattle.erim_commands.specs.declared.reply.Status.TheVariants.{ImageRefused};
+ghost use Rattle.erim_commands.specs.CallParts.{Loads, Passes, reply_of};
+ghost use Rattle.erim_commands.specs.Commands.{with_image};
+ghost use Rattle.erim_commands.specs.Delivery.{world};
+ghost use Rattle.erim_commands.specs.Replies.{told};
+
+use crate::delivery::{conclude, put};
+use crate::reply::{FAILED, OUT_OF_MEMORY, Reply, Status, code_of};
+use crate::text::fault_line;
+use elf_image::{Image, ImageFault, read_image};
+use erim_defs::NoMemory;
+use erim_io::{LoadFault, Sink, Store};
+use std::alloc::Global;
+
+/// The most bytes that an image may have: 8 MiB.
+const IMAGE_LIMIT: u64 = 8_388_608;
+
+/// Loads a file of at most `limit` bytes. Where it is larger, the line is put, with the status.
+fn load<S: Store, K: Sink>(
+    alloc: Global,
+    name: &str,
+    limit: u64,
+    status: Status,
+    line: &[u8],
+    store: &mut S,
+    out: &mut K,
+) -> Result<Vec<u8>, u8>
+    ensures { let old = world S.Store K.Sink store.old out.old in
+        let new = world S.Store K.Sink store.new out.new in
+        (text : List ℕ) → line.now ≡ error_line text
+        → Loads name.now limit (told status text) old new result }
+{
+    let mut bytes = Vec::new(alloc);
+    match store.load(name, limit, &mut bytes) {
+        Ok(()) => Ok(bytes),
+        Err(LoadFault::Failed) => Err(put(out, FAILED, b"erim: load failed\n")),
+        Err(LoadFault::TooLarge { length: _ }) => Err(put(out, code_of(status), line)),
+        Err(LoadFault::Memory) => Err(OUT_OF_MEMORY),
+    }
+}
+
+/// The reply of a command that does nothing with its image, for the reason that the line says.
+pub fn image_refused<'a>(line: String) -> Reply<'a>
+    ensures { (text : List ℕ) → string_bytes line ≡ error_line text
+        → reply_of result ≡ told ImageRefused text }
+{
+    Reply {
+        status: Status::ImageRefused,
+        text: line.into_bytes(),
+        save: None,
+    }
+}
+
+/// The reply of a command whose image has this fault, unless it is want of memory.
+fn faulty_image<'a>(alloc: Global, fault: &ImageFault) -> Result<Reply<'a>, NoMemory>
+    ensures { IfOk result (λ reply. (fault.now ≢ ImageFault.Memory)
+        × (reply_of reply ≡ told ImageRefused (fault_text fault.now))) }
+{
+    match fault {
+        ImageFault::Memory => Err(NoMemory),
+        _ => match fault_line(alloc, fault) {
+            Ok(line) => Ok(image_refused(line)),
+            Err(NoMemory) => Err(NoMemory),
+        },
+    }
+}
+
+/// Loads an image of at most 8 MiB and reads it. Where that fails, the call is at its end, and the
+/// program's answer is the error.
+pub fn load_image<S: Store, K: Sink>(
+    alloc: Global,
+    name: &str,
+    store: &mut S,
+    out: &mut K,
+) -> Result<Image, u8>
+    ensures { let old = world S.Store K.Sink store.old out.old in
+        Passes (with_image name.now) old (world S.Store K.Sink store.new out.new) result }
+{
+    let refused = Status::ImageRefused;
+    let line = b"erim: image too large\n";
+    let bytes = match load(alloc, name, IMAGE_LIMIT, refused, line, store, out) {
+        Ok(bytes) => bytes,
+        Err(status) => return Err(status),
+    };
+    match read_image(alloc, bytes.as_slice()) {
+        Ok(image) => Ok(image),
+        Err(fault) => Err(conclude(store, out, faulty_image(alloc, &fault))),
+    }
+}

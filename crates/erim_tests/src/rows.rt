@@ -1,0 +1,49 @@
+//! Rows of worked examples as text: cells between `|`, of bytes and numbers in hexadecimal digits.
+
+use std::alloc::Global;
+use std::process::Abort;
+
+/// The rows, each on one line: a line that begins with `|` goes on with the row before it.
+pub fn rows(rt: &impl Abort, alloc: Global, text: &str) -> String {
+    text.replace(alloc, "\n|", " |").expect(rt, "memory")
+}
+
+/// The first cell of a row, and what stands behind it.
+pub fn cell<'a>(rt: &impl Abort, row: &'a str) -> (&'a str, &'a str) {
+    let (cell, rest) = row.split_once('|').expect(rt, row);
+    (cell.trim(), rest.trim())
+}
+
+/// The first word of a cell, and what stands behind it.
+pub fn word<'a>(rt: &impl Abort, cell: &'a str) -> (&'a str, &'a str) {
+    let (word, rest) = cell.split_once(' ').expect(rt, cell);
+    (word, rest.trim())
+}
+
+/// The bytes in hexadecimal digits, with spaces between some of them; none for `-`.
+pub fn bytes_of(rt: &impl Abort, alloc: Global, digits: &str) -> Vec<u8> {
+    let mut bytes = Vec::new(alloc);
+    for word in digits.split_whitespace() {
+        if word != "-" {
+            let more = hex::decode(alloc, word).expect(rt, word);
+            bytes.extend_from_slice(&more).expect(rt, "memory");
+        }
+    }
+    bytes
+}
+
+/// The number in hexadecimal digits.
+pub fn number(rt: &impl Abort, digits: &str) -> u64 {
+    u64::from_str_radix(digits, 16).expect(rt, digits)
+}
+
+/// The numbers in hexadecimal digits; none for `-`.
+pub fn numbers(rt: &impl Abort, alloc: Global, digits: &str) -> Vec<u64> {
+    let mut numbers = Vec::new(alloc);
+    for word in digits.split_whitespace() {
+        if word != "-" {
+            numbers.push(number(rt, word)).expect(rt, "memory");
+        }
+    }
+    numbers
+}
