@@ -19,4 +19,5 @@ mod top_call;
 mod words;
 
 pub use reply::OUT_OF_MEMORY;
+pub use text::fault_line;
 pub use top_call::erim_plain;

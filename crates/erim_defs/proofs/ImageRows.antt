@@ -1,7 +1,8 @@
 -- The faults, segments, records and code of the small image and of ones that differ from it in a
 -- byte, computed. ELF-64, "File header", "Program header" and "Note section"; the trust note is
 -- own.
-use Rattle.std.proofs.Common.{◌≡◌, ℕ, List, [], ◌∷◌, Option, Some, None, take, map, refl}
+use Rattle.std.proofs.Common.{◌≡◌, ℕ, List, [], ◌∷◌, ◌++◌, Option, Some, None, take, map}
+use Rattle.std.proofs.Common.{true, false, refl}
 use Rattle.std.specs.Prelude.{slice_set}
 use Rattle.erim_defs.specs.declared.fault.ImageFault.{ImageFault}
 use Rattle.erim_defs.specs.declared.fault.ImageFault.TheVariants.{Short, Magic, Class, FileType}
@@ -16,7 +17,7 @@ use Rattle.erim_defs.specs.declared.segment.Segment.{Segment}
 use Rattle.erim_defs.specs.Inspection.Image.{number_at, headers_from, headers, loadable_segments}
 use Rattle.erim_defs.specs.Inspection.Image.{static_fault}
 use Rattle.erim_defs.specs.Inspection.Image.{range_fault, shared_fault, notes_between}
-use Rattle.erim_defs.specs.Inspection.Image.{note_fault_between}
+use Rattle.erim_defs.specs.Inspection.Image.{note_fault_between, is_functions}
 use Rattle.erim_defs.specs.Inspection.Image.{note_fault, notes, records_from, records_in}
 use Rattle.erim_defs.specs.Inspection.Image.{record_fault}
 use Rattle.erim_defs.specs.Inspection.Image.{all_pages, text_fault, data_fault, entry_fault}
@@ -147,6 +148,41 @@ note_shape = refl
 note_version : fault_of (with_byte 548 2) ≡ Some NoteVersion
 unfolding fault_of
 note_version = refl
+
+-- a trust note without records, and a functions note without functions
+empty_trust : List ℕ
+empty_trust =
+    5 ∷ 0 ∷ 0 ∷ 0 ∷ 8 ∷ 0 ∷ 0 ∷ 0 ∷ 1 ∷ 0 ∷ 0 ∷ 0 ∷ 0x45 ∷ 0x52 ∷ 0x49 ∷ 0x4D ∷ 0 ∷ 0 ∷ 0 ∷ 0
+    ∷ 1 ∷ 0 ∷ 0 ∷ 0 ∷ 0 ∷ 0 ∷ 0 ∷ 0 ∷ []
+
+empty_functions : List ℕ
+empty_functions =
+    6 ∷ 0 ∷ 0 ∷ 0 ∷ 8 ∷ 0 ∷ 0 ∷ 0 ∷ 2 ∷ 0 ∷ 0 ∷ 0 ∷ 0x45 ∷ 0x52 ∷ 0x49 ∷ 0x4D ∷ 0x46 ∷ 0 ∷ 0 ∷ 0
+    ∷ 1 ∷ 0 ∷ 0 ∷ 0 ∷ 0 ∷ 0 ∷ 0 ∷ 0 ∷ []
+
+-- one of each kind, in any order, and not a second one; also behind the notes of another segment
+second_notes :
+    map (λ bytes. note_fault_between bytes 56 0 56 false false)
+    ((empty_trust ++ empty_functions) ∷ (empty_functions ++ empty_trust)
+    ∷ (empty_trust ++ empty_trust) ∷ (empty_functions ++ empty_functions) ∷ [])
+    ≡ None ∷ None ∷ Some (NoteShape 28) ∷ Some (NoteShape 28) ∷ []
+unfolding note_fault_between number_at empty_trust empty_functions
+second_notes = refl
+
+notes_behind :
+    note_fault_between empty_trust 28 0 28 true false
+    ∷ note_fault_between empty_trust 28 0 28 false true
+    ∷ note_fault_between empty_functions 28 0 28 true false
+    ∷ note_fault_between empty_functions 28 0 28 false true ∷ []
+    ≡ Some (NoteShape 0) ∷ None ∷ None ∷ Some (NoteShape 0) ∷ []
+unfolding note_fault_between number_at empty_trust empty_functions
+notes_behind = refl
+
+-- which of the notes lists functions
+function_notes :
+    map is_functions (notes_between (empty_trust ++ empty_functions) 56 0 56) ≡ false ∷ true ∷ []
+unfolding notes_between number_at empty_trust empty_functions
+function_notes = refl
 
 -- ---- records: record i stands at 556 + 24 * i
 

@@ -1,6 +1,6 @@
 -- Steps of the machine on small states, computed. SDM volume 2, MOV XOR CMP Jcc WRPKRU SYSCALL, and
 -- volume 1, "EFLAGS register"; what a fault tells, and which steps are defined, is own.
-use Rattle.std.proofs.Common.{◌≡◌, ◌==◌, List, [], ◌∷◌, Some, None, false, true, map, refl}
+use Rattle.std.proofs.Common.{◌≡◌, ◌==◌, ◌||◌, List, [], ◌∷◌, Some, None, false, true, map, refl}
 use Rattle.std.specs.Prelude.{if◌then◌else◌}
 use Rattle.erim_defs.specs.declared.machine.Cause.{Cause}
 use Rattle.erim_defs.specs.declared.machine.Cause.TheVariants.{Exec, Undefined, General}
@@ -8,7 +8,8 @@ use Rattle.erim_defs.specs.declared.machine.End.{End}
 use Rattle.erim_defs.specs.declared.machine.End.TheVariants.{Exit, Fault}
 use Rattle.erim_defs.specs.declared.machine.Flags.{Flags}
 use Rattle.erim_defs.specs.declared.machine.Thread.{Thread}
-use Rattle.erim_defs.specs.Machine.State.{State}
+use Rattle.erim_defs.specs.Machine.State.{State, any_live}
+use Rattle.erim_defs.specs.Machine.Count.{count_below}
 use Rattle.erim_defs.specs.Machine.Step.{flags_word, with_end, after_exec_fault}
 use Rattle.erim_defs.proofs.SmallMachine.{step_by, state_of, thread_at, caller_at, no_flags}
 use Rattle.erim_defs.proofs.SmallMachine.{published_page}
@@ -245,3 +246,17 @@ last_of_budget : let s = record (state_of first (0x06 ∷ [])) { steps = 99 } in
     step_by 0 s ≡ Some (record s { steps = 100; end = Some (Fault 0 0x401000 Undefined 0x401000) })
 unfolding step_by first
 last_of_budget = refl
+
+-- ---- who is live, and how many pages are mapped
+
+any_live_ones : let dead : Thread = record first { live = false } in
+    map any_live ([] ∷ (dead ∷ []) ∷ (dead ∷ first ∷ []) ∷ (first ∷ dead ∷ []) ∷ [])
+    ≡ false ∷ false ∷ true ∷ true ∷ []
+unfolding any_live first
+any_live_ones = refl
+
+mapped_pages :
+    map (λ n. count_below n (λ q. (q == 1) || ((q == 4) || (q == 6)))) (0 ∷ 1 ∷ 2 ∷ 6 ∷ 7 ∷ [])
+    ≡ 0 ∷ 0 ∷ 1 ∷ 2 ∷ 3 ∷ []
+unfolding count_below
+mapped_pages = refl

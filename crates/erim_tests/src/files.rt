@@ -27,30 +27,6 @@ fn check_load<S: Store>(
     assert!(rt; told == want, "{name} within {limit}");
 }
 
-const NOWHERE: &str = "no such folder/no such file";
-
-/// Looks for that one name.
-fn check_noted(rt: &impl Abort, names: &Vec<String>) {
-    let name = names.first().expect(rt, "a name");
-    assert!(rt; names.len() == 1 && name.as_str() == NOWHERE);
-}
-
-#[test]
-fn files_that_are_not_there(rt: HostRuntime) {
-    let mut store = FileStore::new(rt.alloc(), &rt);
-    check_load(
-        &rt,
-        rt.alloc(),
-        &mut store,
-        NOWHERE,
-        9,
-        Err(LoadFault::Failed),
-    );
-    assert!(rt; store.save(NOWHERE, b"abc") == Err(SaveFault::Failed));
-    check_noted(&rt, store.failed_loads());
-    check_noted(&rt, store.failed_saves());
-}
-
 /// Saves bytes over a file with others, and loads what stands there: within its length, and within
 /// one byte less. Where memory runs out, the file is as it was: shown with each allocation refused
 /// in turn, by `rt try --test --fail-alloc 1..`.
@@ -194,9 +170,20 @@ fn a_full_writer_fails_and_is_counted(rt: HostRuntime) {
 /// Linux's device of which every write fails for want of room (full(4)).
 const FULL: &str = "/dev/full";
 
+/// A load of a file that isn't there, and a save and a put to a full device.
 #[test]
-fn a_full_device_fails(rt: HostRuntime) {
+fn what_fails_is_told(rt: HostRuntime) {
     let mut store = FileStore::new(rt.alloc(), &rt);
+    let nowhere = Err(LoadFault::Failed);
+    check_load(
+        &rt,
+        rt.alloc(),
+        &mut store,
+        "no such folder/no file",
+        9,
+        nowhere,
+    );
+    assert!(rt; store.failed_loads().len() == 1);
     assert!(rt; store.save(FULL, b"abc") == Err(SaveFault::Failed));
     assert!(rt; store.failed_saves().len() == 1);
     let mut out = fs::OpenOptions::new()

@@ -1,7 +1,8 @@
 //! Images made by hand, field by field, and what each is read as.
 
 use crate::rows::{cell, number, rows};
-use elf_image::{ImageFault, Segment, later_fault, read_image};
+use elf_image::{ImageFault, later_fault, read_image};
+use erim_commands::fault_line;
 use std::alloc::Global;
 use std::process::Abort;
 
@@ -160,17 +161,17 @@ fn whole_fault(bytes: &[u8], first: ImageFault) -> ImageFault {
     }
 }
 
-/// Looks for what bytes are read as: `accepted`, or the first fault's text.
+/// Looks for what bytes are read as: `accepted`, or the line of the first fault.
 fn check_row(rt: &impl Abort, alloc: Global, row: &str) {
     let (what, rest) = cell(rt, row);
     let (fields, want) = cell(rt, rest);
     let bytes = image_with(rt, alloc, fields);
     match read_image(alloc, &bytes) {
-        Ok(_) => assert!(rt; want == "accepted", "{what}: accepted"),
+        Ok(_) => assert!(rt; want == "accepted", "{what}"),
         Err(first) => {
-            let fault = whole_fault(&bytes, first);
-            let text = fault.to_string(alloc).expect(rt, "memory");
-            assert!(rt; text.strip_prefix("image ") == Some(want), "{what}: {text}");
+            let line = fault_line(alloc, &whole_fault(&bytes, first)).expect(rt, what);
+            let text = line.as_str().strip_prefix("erim: image ").expect(rt, what);
+            assert!(rt; text.trim() == want, "{what}");
         }
     }
 }
@@ -187,27 +188,4 @@ fn limits(rt: HostRuntime) {
     for row in rows(&rt, rt.alloc(), LIMITS).as_str().lines() {
         check_row(&rt, rt.alloc(), row);
     }
-}
-
-/// What an image tells where each of its lists has an element: trusted data and a heap too.
-#[test]
-fn views(rt: HostRuntime) {
-    let more = "772:4=68 792:4=4 208:8=7c
-        844:4=2 848:4=1 852:8=404000 860:8=1000 868:4=4 872:4=1 876:8=405000 884:8=1000
-        160:8=2000";
-    let bytes = image_with(&rt, rt.alloc(), more);
-    let image = read_image(rt.alloc(), &bytes).expect(&rt, "an image");
-    let text = Segment {
-        vaddr: 0x40_1000,
-        offset: 0x1000,
-        filesz: 0x2000,
-        memsz: 0x2000,
-        flags: 5,
-    };
-    assert!(rt; image.segments().first() == Some(&text));
-    assert!(rt; image.segments().len() == 2 && image.pages() == 4);
-    assert!(rt; image.entry() == 0x40_1000 && image.bytes() == bytes.as_slice());
-    assert!(rt; image.trust().is_trusted(0x40_2000) && !image.trust().is_trusted(0x40_1FFF));
-    assert!(rt; image.trust().is_entry(0x40_200C) && !image.trust().is_entry(0x40_2000));
-    assert!(rt; image.trusted_pages().len() == 1 && image.heaps().len() == 1);
 }

@@ -234,7 +234,7 @@ c7c001000000 b801000000";
 
 /// Beginnings of instructions.
 const SHORT: &str = "\
-0f 0f01 660f f341 f30f1e f0 48 8b 8b45 8b0425000000 c6042500114000 49bf88776655443322 b8010203
+- 0f 0f01 660f f341 f30f1e f0 48 8b 8b45 8b0425000000 c6042500114000 49bf88776655443322 b8010203
 f0480f 2e2e2e2e2e2e2e2e2e2e2e2e2e2e f02e2e2e2e2e2e2e2e2e2e2e2e";
 
 /// What no instruction begins with: by its prefixes, or by its opcode and ModRM.
@@ -372,22 +372,24 @@ fn writes_instructions_of_random_bytes(rt: HostRuntime) {
     }
 }
 
-#[test]
-fn tells_short(rt: HostRuntime) {
-    assert!(rt; matches!(decode(&[]), Decoded::Short));
-    for digits in SHORT.split_whitespace() {
-        let bytes = bytes_of(&rt, rt.alloc(), digits);
-        assert!(rt; matches!(decode(&bytes), Decoded::Short), "{digits}");
-        assert!(rt; locate(&bytes).is_none(), "{digits}");
-    }
+/// Begins an instruction where `short`, else begins none.
+fn check_none(rt: &impl Abort, alloc: Global, digits: &str, short: bool) {
+    let bytes = bytes_of(rt, alloc, digits);
+    let told = match decode(&bytes) {
+        Decoded::Short => short,
+        Decoded::Undefined => !short,
+        Decoded::Insn { .. } => false,
+    };
+    assert!(rt; told && locate(&bytes).is_none(), "{digits}");
 }
 
 #[test]
-fn tells_undefined(rt: HostRuntime) {
+fn tells_short_and_undefined(rt: HostRuntime) {
+    for digits in SHORT.split_whitespace() {
+        check_none(&rt, rt.alloc(), digits, true);
+    }
     for digits in UNDEFINED.split_whitespace() {
-        let bytes = bytes_of(&rt, rt.alloc(), digits);
-        assert!(rt; matches!(decode(&bytes), Decoded::Undefined), "{digits}");
-        assert!(rt; locate(&bytes).is_none(), "{digits}");
+        check_none(&rt, rt.alloc(), digits, false);
     }
 }
 

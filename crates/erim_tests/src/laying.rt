@@ -1,78 +1,92 @@
-//! Images of pages, laid out from rows of text.
+//! Images laid out from rows of text.
 
-ghost use Rattle.std.specs.Prelude.{◌≡◌, ◌≤◌, length};
+ghost use Rattle.std.specs.Prelude.{◌≤◌, ◌*◌, length};
+ghost use Rattle.image_gen.specs.Parts.{total_bytes};
 
-use crate::rows::{bytes_of, number};
+use crate::rows::{bytes_of, number, word};
 use image_gen::{Mark, Part, lay_image};
 use std::alloc::Global;
 use std::process::Abort;
 
-/// The image of a page that leaves with status 0: mov edi, 0; mov eax, 231; syscall.
-pub const LEAVING: &str = "401000:5:0:bf00000000b8e70000000f05";
-
-/// A segment whose file part is one page: `ADDRESS:FLAGS:PLACE:BYTES:PAGES`. The flags are readable
-/// 4, writable 2 and executable 1; the page has the bytes from a place of it on, and zeros
-/// elsewhere; in memory the segment has so many pages.
-fn part(rt: &impl Abort, alloc: Global, page: &str) -> Part
-    ensures { length result.bytes.items ≡ 4096 }
+/// A segment: `ADDRESS FLAGS PAGES PLACE BYTES`. The flags are readable 4, writable 2 and executable
+/// 1. In memory it has so many pages; in the file zeros up to a place, and then the bytes.
+fn part(rt: &impl Abort, alloc: Global, segment: &str) -> Part
+    ensures { length result.bytes.items ≤ 4096 }
 {
-    let mut cells = page.split(':');
-    let vaddr = number(rt, cells.next().expect(rt, page));
-    let flags = number(rt, cells.next().expect(rt, page));
-    let place = number(rt, cells.next().expect(rt, page));
-    let tail = bytes_of(rt, alloc, cells.next().expect(rt, page));
-    let pages = number(rt, cells.next().unwrap_or("1"));
+    let (address, rest) = word(rt, segment);
+    let (flags, rest) = word(rt, rest);
+    let (pages, rest) = word(rt, rest);
+    let (place, digits) = word(rt, rest);
     let mut bytes = Vec::new(alloc);
-    let place = usize::try_from(place).expect(rt, page);
-    bytes.resize(place, 0).expect(rt, "memory");
-    bytes.extend_from_slice(&tail).expect(rt, "memory");
-    bytes.resize(4096, 0).expect(rt, "memory");
+    bytes
+        .resize(number(rt, place) as usize, 0)
+        .expect(rt, segment);
+    let tail = bytes_of(rt, alloc, digits);
+    bytes.extend_from_slice(&tail).expect(rt, segment);
+    bytes.truncate(4096);
     Part {
-        vaddr,
-        flags: u32::try_from(flags).expect(rt, page),
+        vaddr: number(rt, address),
+        flags: u32::try_from(number(rt, flags)).expect(rt, segment),
         bytes,
-        memsz: pages.saturating_mul(4096),
+        memsz: number(rt, pages).saturating_mul(4096),
     }
 }
 
-/// A record of the trust note: `KIND:START:LENGTH`.
-fn mark(rt: &impl Abort, mark: &str) -> Mark {
-    let mut cells = mark.split(':');
-    let kind = number(rt, cells.next().expect(rt, mark));
+/// A record of the trust note: `KIND START LENGTH`.
+fn mark(rt: &impl Abort, record: &str) -> Mark {
+    let (kind, rest) = word(rt, record);
+    let (start, length) = word(rt, rest);
     Mark {
-        kind: u32::try_from(kind).expect(rt, mark),
-        start: number(rt, cells.next().expect(rt, mark)),
-        length: number(rt, cells.next().expect(rt, mark)),
+        kind: u32::try_from(number(rt, kind)).expect(rt, record),
+        start: number(rt, start),
+        length: number(rt, length),
     }
 }
 
-/// The records, none for `-`.
-fn marks(rt: &impl Abort, alloc: Global, texts: &str) -> Vec<Mark>
-    ensures { length result.items ≤ 256 }
+/// The segments, with commas between them.
+fn parts(rt: &impl Abort, alloc: Global, segments: &str) -> Vec<Part>
+    ensures few { length result.items ≤ 63 }
+    ensures bytes { total_bytes result.items ≤ 4096 * 63 }
+{
+    let mut parts = Vec::new(alloc);
+    for segment in segments.split(',') {
+        assert!(rt; parts.len() < 63);
+        parts
+            .push(part(rt, alloc, segment.trim()))
+            .expect(rt, segments);
+    }
+    parts
+}
+
+/// The records, with commas between them; none for `-`.
+fn marks(rt: &impl Abort, alloc: Global, records: &str) -> Vec<Mark>
+    ensures { length result.items ≤ 255 }
 {
     let mut marks = Vec::new(alloc);
-    for text in texts.split_whitespace() {
-        if text != "-" {
-            marks.push(mark(rt, text)).expect(rt, "memory");
+    for record in records.split(',') {
+        assert!(rt; marks.len() < 255);
+        if record != "-" {
+            marks.push(mark(rt, record.trim())).expect(rt, records);
         }
     }
-    assert!(rt; marks.len() <= 256);
     marks
 }
 
-/// The image of some pages with a trust note of the records, where there are any, and its entry
+/// The image of some segments with a trust note of some records, where there are any, and its entry
 /// point.
-pub fn laid(rt: &impl Abort, alloc: Global, pages: &str, texts: &str, entry: u64) -> Vec<u8> {
-    let mut parts = Vec::new(alloc);
-    for page in pages.split_whitespace() {
-        assert!(rt; parts.len() < 63, "{pages}");
-        parts.push(part(rt, alloc, page)).expect(rt, "memory");
-    }
-    let marks = marks(rt, alloc, texts);
-    lay_image(alloc, &parts, &marks, &[], entry).expect(rt, "memory")
+pub fn laid(rt: &impl Abort, alloc: Global, segments: &str, records: &str, entry: u64) -> Vec<u8> {
+    let parts = parts(rt, alloc, segments);
+    let marks = marks(rt, alloc, records);
+    lay_image(alloc, &parts, &marks, &[], entry).expect(rt, segments)
 }
 
-/// The image of the page that leaves with status 0.
+/// The image of a page that leaves with status 0: mov edi, 0; mov eax, 231; syscall.
 pub fn leaving(rt: &impl Abort, alloc: Global) -> Vec<u8> {
-    laid(rt, alloc, LEAVING, "-", 0x401000)
+    laid(
+        rt,
+        alloc,
+        "401000 5 1 0 bf00000000b8e70000000f05",
+        "-",
+        0x401000,
+    )
 }

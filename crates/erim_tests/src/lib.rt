@@ -1,16 +1,14 @@
 //! Tests of the libraries and of the commands: worked rows with values from outside, for what no
 //! clause says.
 //!
-//! They stand in a crate of their own, since a crate with tests is proved twice. `files`, `images`,
-//! `code` and `instructions` call libraries; `delivering`, `early_faults`, `inspecting`, `printing`
+//! They stand in a crate of their own, since a crate with tests is proved twice. `files`, `images` and
+//! `instructions` call libraries; `delivering`, `early_faults`, `inspecting`, `printing`
 //! and `running` call `erim_plain` (`calling`). Rows are text (`rows`), also those that images are
 //! laid out from (`laying`). Each call that allocates is made at least once where it succeeds.
 #![tactic(auto)]
 
 #[cfg(test)]
 mod calling;
-#[cfg(test)]
-mod code;
 #[cfg(test)]
 mod delivering;
 #[cfg(test)]

@@ -47,3 +47,12 @@ pub fn numbers(rt: &impl Abort, alloc: Global, digits: &str) -> Vec<u64> {
     }
     numbers
 }
+
+/// The lines of a text, which has `/` for the end of each and may have an end of its own behind it.
+pub fn lines(rt: &impl Abort, alloc: Global, text: &str) -> String {
+    let mut lines = String::new(alloc);
+    for line in text.split_terminator('/') {
+        writeln!(lines, "{}", line.trim()).expect(rt, text);
+    }
+    lines
+}

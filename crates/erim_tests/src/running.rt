@@ -2,75 +2,97 @@
 
 use crate::calling::{check_call, store};
 use crate::laying::laid;
-use crate::rows::{cell, number, word};
+use crate::rows::{cell, lines, number, word};
 use erim_io::Store;
 use std::alloc::Global;
 use std::process::Abort;
 
-const RUN: &str = "erim run image journal";
-
-/// The pages of an image and the records of its trust note; its entry point; the status, how many
-/// entries the saved journal has, and the text, with `/` for the end of a line.
+/// The segments of an image and the records of its trust note; its entry point, the status, and
+/// how many entries the saved journal has; the text, with `/` for the end of a line.
 ///
 /// Trusted text at 0x402000 has the entry 0x40200C behind its gate. It opens the trusted key,
 /// writes the 8 bytes of trusted data at 0x404000, and leaves; in the escape it goes on by je, back
 /// to 0x401FF0. Those that run into it have xor eax, eax at the end of their page.
 const ROWS: &str = "\
-leaves with 0 | 401000:5:0:bf00000000b8e70000000f05 | - | 401000 0 4
+leaves with 0
+| 401000 5 1 0 bf00000000b8e70000000f05 | - | 401000 0 4
 | output 0//steps 4/end exit 0/escape none/
 thread 0 steps 4 pkru 0x55555554/worker 0 steps 4/;
-through the gate | 401000:5:ffe:31c0
-402000:5:0:31c931d2b8505555550f01efbf01000000be00404000ba08000000b8010000000f0531ffb8e70000000f05
-404000:6:0:4142434445464748 | 1:402000:1000 2:404000:1000 3:40200c:0 | 401ffe 0 14
+through the gate
+| 401000 5 1 ffe 31c0,
+402000 5 1 0 31c931d2b8505555550f01efbf01000000be00404000ba08000000b8010000000f0531ffb8e70000000f05,
+404000 6 1 0 4142434445464748, 405000 6 1 0 -
+| 1 402000 1000, 2 404000 1000, 3 40200c 0, 4 405000 1000 | 401ffe 0 14
 | output 8/ABCDEFGH/steps 14/end exit 0/escape none/
 thread 0 steps 14 pkru 0x55555550/worker 0 steps 14/;
-bytes that are no instruction | 401000:5:0:0f0b | - | 401000 1 2
+bytes that are no instruction
+| 401000 5 1 0 0f0b | - | 401000 1 2
 | output 0//steps 2/end fault undefined thread 0 rip 0x000000401000 at 0x000000401000/
 escape none/thread 0 steps 2 pkru 0x55555554/worker 0 steps 2/;
-off its code | 401000:5:ffe:31c0 | - | 401ffe 1 3
+off its code
+| 401000 5 1 ffe 31c0 | - | 401ffe 1 3
 | output 0//steps 3/end fault exec thread 0 rip 0x000000402000 at 0x000000402000/
 escape none/thread 0 steps 3 pkru 0x55555554/worker 0 steps 3/;
 xor eax, eax; je to data
-| 401000:5:ff0:31c07410 402000:6:0:bf00000000b8e70000000f05 | - | 401ff0 1 4
+| 401000 5 1 ff0 31c07410, 402000 6 1 0 bf00000000b8e70000000f05 | - | 401ff0 1 4
 | output 0//steps 4/end fault exec thread 0 rip 0x000000402004 at 0x000000402004/
 escape none/thread 0 steps 4 pkru 0x55555554/worker 0 steps 4/;
-an escape | 401000:5:ff0:31ffb8e70000000f05000000000031c0
-402000:5:0:31c931d2b8505555550f01ef31c074e0 | 1:402000:1000 3:40200c:0 | 401ffe 0 11
+an escape
+| 401000 5 1 ff0 31ffb8e70000000f05000000000031c0,
+402000 5 1 0 31c931d2b8505555550f01ef31c074e0 | 1 402000 1000, 3 40200c 0 | 401ffe 0 11
 | output 0//steps 11/end exit 0/escape step 8 thread 0 rip 0x000000401ff0/
 thread 0 steps 11 pkru 0x55555550/worker 0 steps 11/;
-xor eax, eax; je back | 401000:5:0:31c074fc | - | 401000 7 1000000
+xor eax, eax; je back
+| 401000 5 1 0 31c074fc | - | 401000 7 1000000
 | output 0//steps 1000000/end spent/escape none/
 thread 0 steps 1000000 pkru 0x55555554/worker 0 steps 1000000/;
-an entry one byte early | 401000:5:0:90 402000:5:0:31c931d2b8505555550f01ef
-| 1:402000:1000 3:40200b:0 | 401000 3 - | erim: image trusted wrpkru at 0x000000402009/;
-1,009 pages and the stack's 16 | 401000:5:0:90:3f1 | - | 401000 3 -
+an entry one byte early
+| 401000 5 1 0 90, 402000 5 1 0 31c931d2b8505555550f01ef | 1 402000 1000, 3 40200b 0 | 401000 3 -
+| erim: image trusted wrpkru at 0x000000402009/;
+1,009 pages and the stack's 16
+| 401000 5 3f1 0 90 | - | 401000 3 -
 | erim: image needs 1025 frames/;
-a hidden sequence | 401000:5:0:b80f01ef00 | - | 401000 3 - | erim: image not yet/;
-writable code | 401000:7:0:90 | - | 401000 3 - | erim: image not yet/";
+a hidden sequence
+| 401000 5 1 0 b80f01ef00 | - | 401000 3 -
+| erim: image not yet/;
+writable code
+| 401000 7 1 0 90 | - | 401000 3 -
+| erim: image not yet/";
 
 fn check_row(rt: &impl Abort, alloc: Global, row: &str) {
     let (_what, rest) = cell(rt, row);
-    let (pages, rest) = cell(rt, rest);
-    let (marks, rest) = cell(rt, rest);
+    let (segments, rest) = cell(rt, rest);
+    let (records, rest) = cell(rt, rest);
     let (numbers, report) = cell(rt, rest);
     let (entry, answer) = word(rt, numbers);
     let (status, entries) = word(rt, answer);
-    let image = laid(rt, alloc, pages, marks, number(rt, entry));
+    let image = laid(rt, alloc, segments, records, number(rt, entry));
     let mut held = store(rt, alloc, image, &[]);
-    let joined = report.replace(alloc, '\n', "").expect(rt, "memory");
-    let text = joined
-        .as_str()
-        .replace(alloc, '/', "\n")
-        .expect(rt, "memory");
+    let text = lines(rt, alloc, report);
     let status = status.parse().expect(rt, row);
-    check_call(rt, alloc, RUN, &mut held, status, text.as_str());
+    check_call(
+        rt,
+        alloc,
+        "erim run image journal",
+        &mut held,
+        status,
+        text.as_str(),
+    );
+    check_journal(rt, alloc, &mut held, entries);
+}
+
+/// Looks for a journal of so many entries, or for none.
+fn check_journal<S: Store>(rt: &impl Abort, alloc: Global, held: &mut S, entries: &str) {
     let mut journal = Vec::new(alloc);
     let saved = held.load("journal", u64::MAX, &mut journal).is_ok();
     let length = match entries {
         "-" => 0,
-        _ => 20 + 8 * entries.parse::<u32>().expect(rt, row) as usize,
+        _ => 20 + 8 * entries.parse::<u32>().expect(rt, entries) as usize,
     };
-    assert!(rt; saved == (length > 0) && journal.len() == length, "{row}");
+    assert!(rt;
+        saved == (length > 0) && journal.len() == length,
+        "{entries}"
+    );
 }
 
 #[test]
