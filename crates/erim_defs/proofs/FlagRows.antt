@@ -7,7 +7,8 @@ use Rattle.std.specs.Int.Count.{ones}
 use Rattle.erim_defs.specs.declared.machine.Flags.{Flags}
 use Rattle.erim_defs.specs.declared.insn.AluOp.{AluOp}
 use Rattle.erim_defs.specs.declared.insn.AluOp.TheVariants.{Add, Or, Adc, Sbb, And, Sub, Xor, Cmp}
-use Rattle.erim_defs.specs.Machine.Alu.{Outcome, alu}
+use Rattle.erim_defs.specs.Machine.Alu.{alu}
+use Rattle.erim_defs.specs.declared.machine.Outcome.{Outcome}
 
 record Row : Type 0 where
   width : Width

@@ -12,6 +12,7 @@ pub mod FirstUnsafeLemmas
 mod FlagRows
 pub mod ImageLemmas
 mod ImageRows
+mod InsnRows
 mod InvariantRows
 mod IsolationRows
 pub mod JournalLemmas
@@ -23,6 +24,8 @@ mod NotationRows
 pub mod OccurrenceLemmas
 pub mod PageLemmas
 pub mod PlaceLemmas
+pub mod PlanLemmas
+pub mod WriteLemmas
 pub mod RecordLemmas
 mod ReplayRows
 mod ReportRows

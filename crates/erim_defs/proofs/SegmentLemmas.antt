@@ -10,13 +10,14 @@ use Rattle.erim_defs.specs.declared.segment.Segment.{Segment}
 use Rattle.erim_defs.specs.Inspection.Image.{Header, code_of, end_page, first_page, holds_text}
 use Rattle.erim_defs.specs.Inspection.Image.{is_executable, is_in_file, is_in_user, is_loadable}
 use Rattle.erim_defs.specs.Inspection.Image.{is_page_of, is_ranged, loadable_segments, pages_of}
-use Rattle.erim_defs.specs.Inspection.Image.{range_fault, shared_fault, shares_page, touches}
+use Rattle.erim_defs.specs.Inspection.Image.{is_writable, range_fault, shared_fault, shares_page}
+use Rattle.erim_defs.specs.Inspection.Image.{touches}
 use Rattle.erim_defs.specs.Machine.Start.{asked_in, asked_of, byte_in, is_stack}
 use Rattle.erim_defs.proofs.ImageLemmas.{in_user_view}
 use Rattle.erim_defs.proofs.FaultLemmas.{cond_fault, not_true}
 use Rattle.erim_defs.proofs.PageLemmas.{apart_page, touches_view}
 use Rattle.erim_defs.proofs.PlaceLemmas.{shared_parts, shared_passed}
-use Rattle.erim_defs.specs.Machine.Pages.{asks_exec}
+use Rattle.erim_defs.specs.Machine.Pages.{asks_exec, asks_write}
 
 -- ---- segments lie in user memory and share no page
 
@@ -135,6 +136,17 @@ exec_asks false false = refl
 -- an executable segment asks PROT_EXEC, and no other does
 pub asks_exec_is : (s : Segment) → asks_exec (asked_of s) ≡ is_executable s
 asks_exec_is s = exec_asks _ _
+
+-- so is PROT_WRITE
+write_asks : (w x : Bool) → asks_write (1 + cond w 2 0 + cond x 4 0) ≡ w
+write_asks true true = refl
+write_asks true false = refl
+write_asks false true = refl
+write_asks false false = refl
+
+-- a writable segment asks PROT_WRITE, and no other does
+pub asks_write_is : (s : Segment) → asks_write (asked_of s) ≡ is_writable s
+asks_write_is s = write_asks _ _
 
 -- a page asks PROT_EXEC, and the image code has the bytes that are loaded there
 pub record IsTextPage (image : List ℕ) (ss : List Segment) (q : ℕ) : Type 0 where

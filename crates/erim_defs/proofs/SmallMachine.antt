@@ -14,13 +14,19 @@ use Rattle.erim_defs.specs.Machine.State.{Setup, State}
 use Rattle.erim_defs.specs.Machine.Pages.{RightsMap, ByteMap, word, with_number, bytes_of_range}
 use Rattle.erim_defs.specs.Machine.Pages.{code_bytes}
 use Rattle.erim_defs.specs.Machine.Access.{opens, opens_write, stop}
-use Rattle.erim_defs.specs.Machine.Alu.{alu, condition}
+use Rattle.erim_defs.specs.Machine.Plan.{effect}
+use Rattle.erim_defs.specs.Machine.Alu.{alu, imul, unary, shift, bt, condition}
+use Rattle.erim_defs.specs.Machine.Meaning.{plan_alu, plan_test, plan_unary, plan_shift, plan_imul}
+use Rattle.erim_defs.specs.Machine.Meaning.{plan_bt, plan_mov, plan_xchg, plan_lea, plan_movsx}
+use Rattle.erim_defs.specs.Machine.Meaning.{plan_movzx, plan_cmov, plan_set, plan_widen}
+use Rattle.erim_defs.specs.Machine.Meaning.{plan_spread, plan_push, plan_pop, plan_leave, plan_jcc}
+use Rattle.erim_defs.specs.Machine.Meaning.{plan_call, plan_jmp_to, plan_call_to, plan_ret}
+use Rattle.erim_defs.specs.Machine.Meaning.{plan_xadd, plan_cmpxchg, plan_wrpkru, plan_rdpkru, plan}
 use Rattle.erim_defs.specs.Inspection.Image.{number_at, headers_from, headers, loadable_segments}
 use Rattle.erim_defs.specs.Inspection.Image.{notes_between, notes}
 use Rattle.erim_defs.specs.Inspection.Image.{records_from, records_in, image_trust, image_data}
 use Rattle.erim_defs.specs.Inspection.Image.{image_heaps}
 use Rattle.erim_defs.specs.Output.LayImage.{Piece, Mark, program_header, file_header, trust_note}
-use Rattle.erim_defs.specs.Machine.Meaning.{effect, plan_alu, plan_jcc, plan_wrpkru, plan}
 use Rattle.erim_defs.specs.Machine.Calls.{write_result, call_result}
 use Rattle.erim_defs.specs.Encoding.Decoding.{row_at, modrm_follows, sooner_stop, operand_len}
 use Rattle.erim_defs.specs.Encoding.Decoding.{stop_of, least_modrm}
@@ -180,9 +186,13 @@ unfolding step fetch ones small_image row_at modrm_follows sooner_stop operand_l
     byte_rm_place reg_place reg_number memory_of opcode_reg alu_op unary_op shift_op imm8
     imm64 arithmetic_of move_of flow_of exchange_of system_of insn_of word with_number
     bytes_of_range
-    code_bytes opens opens_write stop alu condition number_at headers_from headers loadable_segments
-    notes_between notes records_from records_in image_trust effect plan_alu plan_jcc plan_wrpkru
-    plan
+    code_bytes opens opens_write stop alu imul unary shift bt condition number_at headers_from
+    headers loadable_segments
+    notes_between notes records_from records_in image_trust effect
+    plan_alu plan_test plan_unary plan_shift plan_imul plan_bt plan_mov plan_xchg plan_lea
+    plan_movsx plan_movzx plan_cmov plan_set plan_widen plan_spread plan_push plan_pop plan_leave
+    plan_jcc
+    plan_call plan_jmp_to plan_call_to plan_ret plan_xadd plan_cmpxchg plan_wrpkru plan_rdpkru plan
     write_result call_result
 step_by t s = step t s
 

@@ -176,8 +176,9 @@ undefined_byte : let s = state_of first (0x06 ∷ []) in step_by 0 s ≡ Some (f
 unfolding step_by first
 undefined_byte = refl
 
--- add eax, ebx isn't executed so far
-not_executed : let s = state_of first (0x01 ∷ 0xD8 ∷ []) in step_by 0 s ≡ Some (faulted General s)
+-- xrstor [rax] isn't executed so far
+not_executed : let s = state_of first (0x0F ∷ 0xAE ∷ 0x28 ∷ []) in
+    step_by 0 s ≡ Some (faulted General s)
 unfolding step_by first
 not_executed = refl
 

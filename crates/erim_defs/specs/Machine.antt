@@ -3,6 +3,9 @@ pub mod Pages
 pub mod Access
 pub mod Count
 pub mod Alu
+pub mod Plan
+pub mod Registers
+pub mod Operands
 pub mod Meaning
 pub mod State
 pub mod Calls

@@ -30,7 +30,7 @@ pub use insn::{
     AluOp, Base, By, Decoded, FetchOutcome, Insn, Mem, Place, ShiftOp, Src, UnaryOp, Width,
 };
 pub use journal::one_journal;
-pub use machine::{Access, Cause, End, Entry, Escape, Flags, Keys, Rights, Thread};
+pub use machine::{Access, Cause, End, Entry, Escape, Flags, Keys, Outcome, Rights, Thread};
 pub use memory::NoMemory;
 pub use segment::Segment;
 pub use trust::{Span, Trust};

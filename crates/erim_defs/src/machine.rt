@@ -69,6 +69,13 @@ pub struct Flags {
     pub of: bool,
 }
 
+/// A result, and the flags after it.
+#[derive(Clone, Copy, PartialEq, Eq)]
+pub struct Outcome {
+    pub value: u64,
+    pub flags: Flags,
+}
+
 /// A thread. Registers are RAX RCX RDX RBX RSP RBP RSI RDI R8 to R15.
 #[derive(Clone, Copy, PartialEq, Eq)]
 pub struct Thread {

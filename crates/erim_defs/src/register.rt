@@ -12,6 +12,9 @@ pub const RDX: u8 = 2;
 /// The stack pointer.
 pub const RSP: u8 = 4;
 
+/// The base of a stack frame, for LEAVE.
+pub const RBP: u8 = 5;
+
 /// The second argument of a call.
 pub const RSI: u8 = 6;
 

@@ -2,9 +2,7 @@ pub mod FetchLemmas
 pub mod ReadableLemmas
 pub mod PushLemmas
 pub mod WriteLemmas
-pub mod ArithmeticLemmas
 pub mod CallLemmas
-pub mod RunLemmas
 pub mod LoadLemmas
 pub mod SegmentLemmas
 pub mod PublishLemmas
@@ -12,3 +10,4 @@ pub mod LiveLemmas
 pub mod RefusedLemmas
 pub mod ProcessLemmas
 pub mod StartLemmas
+pub mod MoveLemmas

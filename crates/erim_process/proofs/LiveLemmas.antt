@@ -3,40 +3,31 @@ use Rattle.std.proofs.Common.{◌≡◌, ℕ, zero, suc, ◌-◌, ◌+◌, ◌/�
 use Rattle.std.proofs.Common.{cond, eqb, ltb, List, [], ◌∷◌, Option, Some, None, refl, sym, ap}
 use Rattle.std.proofs.Common.{subst, ◌∙◌, inl, inr}
 use Rattle.std.specs.Prelude.{is_none, slice_get, slice_set}
-use Rattle.std.specs.Int.{w32}
 use Rattle.std.proofs.lemmas.Bool.{cases_Bool}
 use Rattle.erim_defs.specs.declared.machine.Rights.{Rights}
 use Rattle.erim_defs.specs.declared.machine.Thread.{Thread}
-use Rattle.erim_defs.specs.declared.machine.Access.{Access}
 use Rattle.erim_defs.specs.declared.machine.Access.TheVariants.{Fault, Missing}
 use Rattle.erim_defs.specs.declared.found.Found.{Found}
 use Rattle.erim_defs.specs.declared.insn.Insn.{Insn}
-use Rattle.erim_defs.specs.declared.insn.Insn.TheVariants.{Alu, Mov, Jcc, Syscall, Wrpkru}
-use Rattle.erim_defs.specs.declared.insn.AluOp.{AluOp}
-use Rattle.erim_defs.specs.declared.insn.AluOp.TheVariants.{Xor, Cmp}
-use Rattle.erim_defs.specs.declared.insn.Place.TheVariants.{Reg}
-use Rattle.erim_defs.specs.declared.insn.Src.{Src}
-use Rattle.erim_defs.specs.declared.insn.Src.TheVariants.{Imm}
-use Rattle.erim_defs.specs.declared.insn.Width.TheVariants.{W4}
+use Rattle.erim_defs.specs.declared.insn.Insn.TheVariants.{Wrpkru}
 use Rattle.erim_defs.specs.declared.insn.FetchOutcome.{FetchOutcome}
 use Rattle.erim_defs.specs.declared.insn.FetchOutcome.TheVariants.{Runs, Need, Wrong}
-use Rattle.erim_defs.specs.Machine.Pages.{ByteMap, code_with, word, asks_exec}
-use Rattle.erim_defs.specs.Machine.Access.{Seen, whole, stop}
+use Rattle.erim_defs.specs.Machine.Pages.{ByteMap, code_with, asks_exec}
+use Rattle.erim_defs.specs.Machine.Access.{Seen, whole}
 use Rattle.erim_defs.specs.Inspection.Image.{image_trust}
 use Rattle.erim_defs.specs.Inspection.Unsafe.{first_unsafe}
-use Rattle.erim_defs.specs.Machine.Alu.{Outcome, alu, condition}
-use Rattle.erim_defs.specs.Machine.Meaning.{Plan, Ask, Give, Refuse, Call, Effect, Done, Stopped}
-use Rattle.erim_defs.specs.Machine.Meaning.{Called, effect, unless, plan, plan_alu, plan_jcc}
-use Rattle.erim_defs.specs.Machine.Meaning.{plan_wrpkru, with_outcome, low_half, on_source, onward}
-use Rattle.erim_defs.specs.Machine.Meaning.{register, source, with_register, bytes_after_write}
-use Rattle.erim_defs.specs.Machine.Meaning.{writes_result}
-use Rattle.erim_defs.specs.Machine.State.{Setup, State, any_live, code, with_origin, trust_of}
+use Rattle.erim_defs.specs.Machine.Plan.{Refuse, Effect, Done, Stopped, Called, Write, effect}
+use Rattle.erim_defs.specs.Machine.Plan.{bytes_after_write}
+use Rattle.erim_defs.specs.Machine.Registers.{low_half, register, with_register}
+use Rattle.erim_defs.specs.Machine.Meaning.{plan, plan_wrpkru}
+use Rattle.erim_defs.specs.Machine.State.{State, any_live, code, with_origin, trust_of}
 use Rattle.erim_defs.specs.Machine.Calls.{Refusal, Answer, Quit, CallResult, call_result}
 use Rattle.erim_defs.specs.Machine.Step.{is_free, step, after_move, after_instruction, after_call}
 use Rattle.erim_defs.specs.Machine.Step.{after_fetch, sequence_of, with_new_thread, caller_after}
 use Rattle.erim_defs.specs.Machine.Step.{with_change, behind_syscall, after_verdict}
 use Rattle.erim_defs.specs.Machine.Step.{after_exec_fault, ready_thread, after_step_of, if_live}
 use Rattle.erim_defs.specs.Machine.Step.{fetch, Runner}
+use Rattle.erim_defs.proofs.PlanLemmas.{AllGive, does_gives, cond_all, done_plain}
 
 -- ---- threads in a list
 
@@ -77,80 +68,23 @@ any_live_more (t ∷ ts) us h = elim (cases_Bool t.live) [
 
 -- ---- what instructions give
 
--- every thread that a plan gives is as live
-abbrev GivesLive : Bool → Plan → Type 0
-GivesLive live (Ask a n k) = (value : ℕ) → GivesLive live (k value)
-GivesLive live (Give t w) = t.live ≡ live
-GivesLive live Refuse = Unit {0}
-GivesLive live Call = Unit {0}
+-- WRPKRU leaves its thread as live
+wrpkru_live : (len : ℕ) (t : Thread)
+    → AllGive (λ new w. new.live ≡ t.live) (plan Wrpkru len t)
+unfolding plan plan_wrpkru
+wrpkru_live len t =
+    cond_all (λ new w. new.live ≡ t.live) (eqb (low_half (register t 1)) 0
+    && eqb (low_half (register t 2)) 0) _ Refuse refl tt
 
--- by a source
-source_live : (live : Bool) (o : Option ℕ) (f : ℕ → Thread) → ((x : ℕ) → (f x).live ≡ live)
-    → GivesLive live (on_source o (λ x. Give (f x) None))
-source_live live None f h = tt
-source_live live (Some x) f h = h x
-
--- by a result and flags
-concluded_live : (t : Thread) (op : AluOp) (n : ℕ) (o : Outcome)
-    → (with_outcome t op n o).live ≡ t.live
-concluded_live t op n o = elim (cases_Bool (writes_result op)) [
-  | inl on ↦ rw on refl
-  | inr off ↦
-      rw off refl
-]
-
--- arithmetic of registers
-alu_live : (op : AluOp) (n : ℕ) (src : Src) (len : ℕ) (t : Thread)
-    → GivesLive t.live (plan_alu op n src len t)
-unfolding plan_alu
-alu_live op n src len t =
-    source_live t.live (source t src)
-    (λ x. with_outcome (onward len t) op n (alu op w32 (low_half (register t n)) x t.flags))
-    (λ x. concluded_live (onward len t) op n (alu op w32 (low_half (register t n)) x t.flags))
-
--- WRPKRU
-wrpkru_live : (len : ℕ) (t : Thread) → GivesLive t.live (plan_wrpkru len t)
-unfolding plan_wrpkru
-wrpkru_live len t = elim (cases_Bool (eqb (low_half (register t 1)) 0
-    && eqb (low_half (register t 2)) 0))
-    [ inl on ↦ rw on refl | inr off ↦ rw off tt ]
-
--- no instruction so far ends its thread
-plan_live : (insn : Insn) (len : ℕ) (t : Thread) → GivesLive t.live (plan insn len t)
-unfolding plan plan_jcc
-plan_live (Alu Xor W4 (Reg n) src lock) len t = alu_live Xor n src len t
-plan_live (Alu Cmp W4 (Reg n) src lock) len t = alu_live Cmp n src len t
-plan_live (Mov W4 (Reg n) (Imm i)) len t = refl
-plan_live (Jcc c rel) len t =
-    elim (cases_Bool (condition c t.flags)) [ inl on ↦ rw on refl | inr off ↦ rw off refl ]
-plan_live Syscall len t = tt
-plan_live Wrpkru len t = wrpkru_live len t
-plan_live other len t = tt
-
--- the thread with which an instruction is done is as live
-abbrev IsDoneLive : Bool → Effect → Type 0
-IsDoneLive live (Done t w) = t.live ≡ live
-IsDoneLive live (Stopped a) = Unit {0}
-IsDoneLive live Called = Unit {0}
-
--- unless an access stops
-unless_live : (live : Bool) (o : Option Access) (d : Effect) → IsDoneLive live d
-    → IsDoneLive live (unless o d)
-unless_live live None d h = h
-unless_live live (Some a) d h = tt
-
--- what comes of a plan
-does_live : (live : Bool) (p : Plan) (seen : Seen) (bytes : ByteMap) (pkru rip : ℕ)
-    → GivesLive live p → IsDoneLive live (effect p seen bytes pkru rip)
-unfolding effect
-does_live live (Ask a n k) seen bytes pkru rip h =
-    unless_live live (stop seen false pkru a n) (effect (k (word bytes a n)) seen bytes pkru rip)
-    (does_live live (k (word bytes a n)) seen bytes pkru rip (h (word bytes a n)))
-does_live live (Give t None) seen bytes pkru rip h = h
-does_live live (Give t (Some w)) seen bytes pkru rip h =
-    unless_live live (stop seen true pkru w.addr w.count) (Done t (Some w)) h
-does_live live Refuse seen bytes pkru rip h = tt
-does_live live Call seen bytes pkru rip h = tt
+-- no instruction ends its thread
+done_live : (insn : Insn) (len : ℕ) (t new : Thread) (w : Option Write) (seen : Seen)
+    (bytes : ByteMap) (pkru rip : ℕ) → effect (plan insn len t) seen bytes pkru rip ≡ Done new w
+    → new.live ≡ t.live
+done_live Wrpkru len t new w seen bytes pkru rip h =
+    does_gives (λ x v. x.live ≡ t.live) (plan Wrpkru len t) seen bytes pkru rip new w
+    (wrpkru_live len t) h
+done_live insn len t new w seen bytes pkru rip h =
+    (done_plain insn len t new w seen bytes pkru rip (λ e. absurd cc) h).live
 
 -- ---- what a step makes of the threads
 
@@ -179,13 +113,14 @@ replied_live : (r : CallResult) (t : ℕ) (old new : Thread) (s : State)
 replied_live (Refusal e) t old new s here live =
     went_live t old (with_register new 0 (2 ^ 64 - e)) None false s here live
 replied_live (Answer v c) t old new s here live =
-    made_live c.made (after_move
-    (record {
+    let changed : State = with_change c s in
+    let moved : State = after_move (record {
       runner = record { number = t; thread = old };
-      after = (caller_after v c new);
+      after = caller_after v c new;
       executed = None;
       free = false;
-    }) (with_change c s)) (went_live t old (caller_after v c new) None false (with_change c s) here live)
+    }) changed in
+    made_live c.made moved (went_live t old (caller_after v c new) None false changed here live)
 replied_live (Quit code) t old new s here live = went_live t old new None false s here live
 
 -- a page that is judged
@@ -207,12 +142,14 @@ fault_live (Some r) x t s h = elim (cases_Bool (asks_exec r.asked && ltb (x / 40
 
 -- an instruction
 did_live : (d : Effect) (insn : Insn) (len skip t : ℕ) (old : Thread) (s : State)
-    → IsDoneLive true d → slice_get s.threads t ≡ Some old → old.live ≡ true
+    → effect (plan insn len old) (whole s.rights) s.bytes old.pkru old.rip ≡ d
+    → slice_get s.threads t ≡ Some old → old.live ≡ true
     → any_live (after_instruction d (record { insn = insn; len = len; skip = skip })
     (record { number = t; thread = old }) s).threads ≡ true
 did_live (Done new w) insn len skip t old s h here live =
     went_live t old new (sequence_of (record { insn = insn; len = len; skip = skip }) old.rip)
-    (is_free insn old) (record s { bytes = bytes_after_write w s.bytes }) here h
+    (is_free insn old) (record s { bytes = bytes_after_write w s.bytes }) here
+    (done_live insn len old new w (whole s.rights) s.bytes old.pkru old.rip h ∙ live)
 did_live (Stopped (Fault cause a)) insn len skip t old s h here live =
     any_live_at s.threads t old here live
 did_live (Stopped (Missing q)) insn len skip t old s h here live =
@@ -226,11 +163,8 @@ moved_live : (x : FetchOutcome) (t : ℕ) (old : Thread) (s : State)
     → slice_get s.threads t ≡ Some old → old.live ≡ true
     → any_live (after_fetch x (record { number = t; thread = old }) s).threads ≡ true
 moved_live (Runs insn len skip) t old s here live =
-    let gives : GivesLive true (plan insn len old) =
-    subst (λ (b : Bool). GivesLive b (plan insn len old)) live (plan_live insn len old) in
     did_live (effect (plan insn len old) (whole s.rights) s.bytes old.pkru old.rip) insn len skip t
-    old s (does_live true (plan insn len old) (whole s.rights) s.bytes old.pkru old.rip gives)
-    here live
+    old s refl here live
 moved_live (Need x) t old s here live =
     fault_live (s.rights (x / 4096)) x (record { number = t; thread = old }) s
     (any_live_at s.threads t old here live)

@@ -1,11 +1,10 @@
--- A tame image publishes every page that asks for it, at the start and ever after: no instruction
--- so far writes to memory, and no call changes rights, so each such page holds the bytes of the
--- image code.
+-- A tame image publishes every page that asks for it, at the start and ever after: no such page is
+-- writable, and no call changes rights, so each holds the bytes of the image code.
 use Rattle.std.proofs.Common.{◌≡◌, ℕ, zero, suc, ◌+◌, ◌*◌, ◌/◌, ◌^◌, ◌⊎◌, ◌&&◌, ◌%◌, ◌++◌, not}
 use Rattle.std.proofs.Common.{Bool, true, false, cond, eqb, ltb, List, [], ◌∷◌, length, is_some}
 use Rattle.std.proofs.Common.{Option, Some, None, refl, sym, ap, subst, ◌∙◌, inl, inr, eqb-true}
-use Rattle.std.specs.Int.{w32}
-use Rattle.std.proofs.lemmas.Bool.{cases_Bool, and_parts, both_ways}
+use Rattle.std.specs.List.{list_any}
+use Rattle.std.proofs.lemmas.Bool.{cases_Bool, and_parts, and_from, or_parts, both_ways}
 use Rattle.erim_defs.specs.declared.machine.Rights.{Rights}
 use Rattle.erim_defs.specs.declared.machine.Thread.{Thread}
 use Rattle.erim_defs.specs.declared.machine.Entry.{Entry}
@@ -13,27 +12,19 @@ use Rattle.erim_defs.specs.declared.machine.Access.TheVariants.{Fault, Missing}
 use Rattle.erim_defs.specs.declared.found.Found.{Found}
 use Rattle.erim_defs.specs.declared.segment.Segment.{Segment}
 use Rattle.erim_defs.specs.declared.insn.Insn.{Insn}
-use Rattle.erim_defs.specs.declared.insn.Insn.TheVariants.{Alu, Mov, Jcc, Syscall, Wrpkru}
-use Rattle.erim_defs.specs.declared.insn.AluOp.{AluOp}
-use Rattle.erim_defs.specs.declared.insn.AluOp.TheVariants.{Xor, Cmp}
-use Rattle.erim_defs.specs.declared.insn.Place.TheVariants.{Reg}
-use Rattle.erim_defs.specs.declared.insn.Src.{Src}
-use Rattle.erim_defs.specs.declared.insn.Src.TheVariants.{Imm}
-use Rattle.erim_defs.specs.declared.insn.Width.TheVariants.{W4}
 use Rattle.erim_defs.specs.declared.insn.FetchOutcome.{FetchOutcome}
 use Rattle.erim_defs.specs.declared.insn.FetchOutcome.TheVariants.{Runs, Need, Wrong}
 use Rattle.erim_defs.specs.Machine.Pages.{RightsMap, ByteMap, code_with, is_published}
 use Rattle.erim_defs.specs.Machine.Pages.{with_value_at, bytes_of_range, asks_exec}
-use Rattle.erim_defs.specs.Machine.Pages.{published_rights}
-use Rattle.erim_defs.specs.Machine.Access.{Seen, whole, stop}
+use Rattle.erim_defs.specs.Machine.Pages.{published_rights, asks_write}
+use Rattle.erim_defs.specs.Machine.Access.{whole, stop}
 use Rattle.erim_defs.specs.Inspection.Image.{IsAccepted, code_of, image_code, is_executable}
-use Rattle.erim_defs.specs.Inspection.Image.{segments, touches, image_trust}
+use Rattle.erim_defs.specs.Inspection.Image.{is_writable, segments, touches, image_trust}
 use Rattle.erim_defs.specs.Inspection.Unsafe.{first_unsafe}
-use Rattle.erim_defs.specs.Machine.Alu.{alu}
-use Rattle.erim_defs.specs.Machine.Meaning.{Plan, Ask, Give, Refuse, Call, Effect, Done, Stopped}
-use Rattle.erim_defs.specs.Machine.Meaning.{Called, effect, plan, plan_alu, plan_jcc, plan_wrpkru}
-use Rattle.erim_defs.specs.Machine.Meaning.{with_outcome, low_half, on_source, onward, register}
-use Rattle.erim_defs.specs.Machine.Meaning.{source}
+use Rattle.erim_defs.specs.Machine.Plan.{Effect, Done, Stopped, Called, Write, effect}
+use Rattle.erim_defs.specs.Machine.Plan.{bytes_after_write}
+use Rattle.erim_defs.specs.Machine.Registers.{register}
+use Rattle.erim_defs.specs.Machine.Meaning.{plan}
 use Rattle.erim_defs.specs.Machine.State.{Setup, State, code}
 use Rattle.erim_defs.specs.Machine.Calls.{Change, Refusal, Answer, Quit, or_refuse, CallResult}
 use Rattle.erim_defs.specs.Machine.Calls.{no_change, write_result, call_result}
@@ -48,14 +39,16 @@ use Rattle.erim_defs.specs.Machine.Replay.{replay, replay_from, steps_of, then_}
 use Rattle.erim_process.specs.StepFacts.{IsTame, Publishes}
 use Rattle.erim_defs.proofs.AcceptedLemmas.{text_page_asks}
 use Rattle.erim_defs.proofs.LossLemmas.{Loses, first_unsafe_loses}
-use Rattle.erim_defs.proofs.SegmentLemmas.{asks_exec_is}
+use Rattle.erim_defs.proofs.SegmentLemmas.{asks_exec_is, asks_write_is}
+use Rattle.erim_defs.proofs.WriteLemmas.{IsAllowed, IsSealed, does_allowed, sealed_same}
 use Rattle.erim_defs.specs.Inspection.Trust.{in_text_of}
 
--- the image code holds nothing unsafe, what is published asks for it, and what asks has the bytes
--- of the image code
+-- the image code holds nothing unsafe, what is published asks for it, and what asks isn't writable
+-- and has the bytes of the image code
 record IsBacked (image : List ℕ) (rights : RightsMap) (bytes : ByteMap) : Type 0 where
   safe : first_unsafe (image_trust image) (image_code image) ≡ None
   asked : (q : ℕ) (r : Rights) → rights q ≡ Some r → r.exec ≡ true → asks_exec r.asked ≡ true
+  sealed : (q : ℕ) (r : Rights) → rights q ≡ Some r → asks_exec r.asked ≡ true → r.write ≡ false
   held : (q : ℕ) (r : Rights) → rights q ≡ Some r → asks_exec r.asked ≡ true → (a : ℕ)
       → a / 4096 ≡ q → image_code image a ≡ Some (bytes a)
 
@@ -111,22 +104,50 @@ code_asked image (s ∷ ss) a n e asks = elim (cases_Bool (touches s (a / 4096))
       elim (cases_Bool (is_executable s)) [ inl x ↦ rw (off, x) rest | inr x ↦ rw (off, x) rest ]
 ]
 
--- the rights of a page at the start are of what it asks, and it is published only as trusted text
+-- where no segment is both writable and executable, the first with a page doesn't ask PROT_WRITE if
+-- it asks PROT_EXEC
+sealed_asked : (ss : List Segment) (q n : ℕ)
+    → list_any (λ s. is_writable s && is_executable s) ss ≡ false → asked_in ss q ≡ Some n
+    → asks_exec n ≡ true → asks_write n ≡ false
+sealed_asked [] q n sealed e asks = absurd cc
+sealed_asked (s ∷ ss) q n sealed e asks =
+    let both = or_parts (is_writable s && is_executable s)
+    (list_any (λ s. is_writable s && is_executable s) ss) sealed in
+    elim (cases_Bool (touches s q)) [
+      | inl on ↦
+          let same : asked_of s ≡ n = some_same (asked_of s) n (rw on at e) in
+          let exec : is_executable s ≡ true = sym (asks_exec_is s) ∙ ap asks_exec same ∙ asks in
+          sym (ap asks_write same) ∙ asks_write_is s
+          ∙ elim (cases_Bool (is_writable s)) [
+            | inl w ↦ absurd (both_ways (is_writable s && is_executable s) both.0
+                (and_from _ _ w exec))
+            | inr w ↦ w
+          ]
+      | inr off ↦ sealed_asked ss q n both.1 (rw off at e) asks
+    ]
+
+-- the rights of a page at the start are of what it asks
+record IsStarted (text : Bool) (o : Option ℕ) (r : Rights) : Type 0 where
+  asked : o ≡ Some r.asked
+  exec : r.exec ≡ text
+  sealed : asks_write r.asked ≡ false → r.write ≡ false
+
+-- it is published only as trusted text
 start_asked : (text : Bool) (key : ℕ) (o : Option ℕ) (r : Rights)
-    → rights_at_start text key o ≡ Some r → (o ≡ Some r.asked) × (r.exec ≡ text)
+    → rights_at_start text key o ≡ Some r → IsStarted text o r
 start_asked text key None r e = absurd cc
-start_asked true key (Some n) r e = let same : published_rights (unpublished_rights n key) ≡ r =
+start_asked true key (Some n) r e = let P : Rights → Type 0 = IsStarted true (Some n) in
+    let same : published_rights (unpublished_rights n key) ≡ r =
     some_same (published_rights (unpublished_rights n key)) r e in
-    (ap (λ (x : Rights). Some x.asked) same, sym (ap (λ (x : Rights). x.exec) same))
-start_asked false key (Some n) r e = let same : unpublished_rights n key ≡ r =
-    some_same (unpublished_rights n key) r e in
-    (ap (λ (x : Rights). Some x.asked) same, sym (ap (λ (x : Rights). x.exec) same))
+    subst P same (record { asked = refl; exec = refl; sealed = λ h. refl })
+start_asked false key (Some n) r e = let P : Rights → Type 0 = IsStarted false (Some n) in
+    let same : unpublished_rights n key ≡ r = some_same (unpublished_rights n key) r e in
+    subst P same (record { asked = refl; exec = refl; sealed = λ h. h })
 
 -- a page at the start is of the stack, or of the image
 first_asked : (setup : Setup) (q : ℕ) (r : Rights) → first_rights setup q ≡ Some r
     → (unpublished_rights 3 0 ≡ r)
-    ⊎ ((image_asked setup.image q ≡ Some r.asked)
-    × (r.exec ≡ in_text_of (image_trust setup.image) (4096 * q)))
+    ⊎ IsStarted (in_text_of (image_trust setup.image) (4096 * q)) (image_asked setup.image q) r
 unfolding first_rights
 first_asked setup q r e = elim (cases_Bool (is_stack q)) [
   | inl on ↦ inl (some_same (unpublished_rights 3 0) r (rw on at e))
@@ -150,11 +171,16 @@ first_backed setup tame accepted = record {
   safe = tame.safe;
   asked = λ q r e on. elim (first_asked setup q r e) [
     | inl stack ↦ absurd (both_ways r.exec (stack_closed r stack) on)
-    | inr own ↦ text_page_asks setup.image q r.asked accepted (sym own.1 ∙ on) own.0
+    | inr own ↦ text_page_asks setup.image q r.asked accepted (sym own.exec ∙ on) own.asked
+  ];
+  sealed = λ q r e asks. elim (first_asked setup q r e) [
+    | inl stack ↦ absurd (both_ways (asks_exec r.asked) (stack_asks r stack) asks)
+    | inr own ↦ own.sealed
+        (sealed_asked (segments setup.image) q r.asked tame.sealed own.asked asks)
   ];
   held = λ q r e asks a place. elim (first_asked setup q r e) [
     | inl stack ↦ absurd (both_ways (asks_exec r.asked) (stack_asks r stack) asks)
-    | inr own ↦ code_asked setup.image (segments setup.image) a r.asked (rw place own.0) asks
+    | inr own ↦ code_asked setup.image (segments setup.image) a r.asked (rw place own.asked) asks
   ];
 }
 
@@ -183,6 +209,12 @@ backed_put image rights bytes q r e asks b = record {
         ≡ x = some_same (published_rights r) x (rw here at h) in
         sym (ap (λ (z : Rights). asks_exec z.asked) same) ∙ asks)
     | inr off ↦ b.asked p x (rw off at h) on
+  ];
+  sealed = λ p x h want. elim (cases_Bool (eqb p q)) [
+    | inl here ↦ (let same : published_rights r
+        ≡ x = some_same (published_rights r) x (rw here at h) in
+        sym (ap (λ (z : Rights). z.write) same))
+    | inr off ↦ b.sealed p x (rw off at h) want
   ];
   held = λ p x h want a place. elim (cases_Bool (eqb p q)) [
     | inl here ↦ b.held q r e asks a (place ∙ eqb-true _ _ here)
@@ -268,66 +300,36 @@ fine_replied (Answer v c) t old new s h b =
     }) (with_change c s)) (fine_changed c s h.0 h.1 b)
 fine_replied (Quit code) t old new s h b = b
 
--- a plan that neither loads nor writes
-abbrev IsPlain : Plan → Type 0
-IsPlain (Ask a n k) = ⊥
-IsPlain (Give t w) = w ≡ None
-IsPlain Refuse = Unit {0}
-IsPlain Call = Unit {0}
+-- a page that asks can't be written
+asks_sealed : (image : List ℕ) (rights : RightsMap) (bytes : ByteMap) (q : ℕ) (r : Rights)
+    → IsBacked image rights bytes → rights q ≡ Some r → asks_exec r.asked ≡ true
+    → IsSealed (rights q)
+asks_sealed image rights bytes q r b e asks x k =
+    let same : r ≡ x = some_same r x (sym e ∙ k) in
+    subst (λ (y : Rights). y.write ≡ false) same (b.sealed q r e asks)
 
--- what goes by a source alone
-source_plain : (o : Option ℕ) (f : ℕ → Thread) → IsPlain (on_source o (λ x. Give (f x) None))
-source_plain None f = tt
-source_plain (Some x) f = refl
+-- so a write that is allowed keeps its bytes
+backed_write : (image : List ℕ) (rights : RightsMap) (bytes : ByteMap) (pkru : ℕ)
+    (w : Option Write) → IsAllowed (whole rights) pkru w → IsBacked image rights bytes
+    → IsBacked image rights (bytes_after_write w bytes)
+backed_write image rights bytes pkru w allowed b = record {
+  safe = b.safe;
+  asked = b.asked;
+  sealed = b.sealed;
+  held = λ q r e asks a place. b.held q r e asks a place
+      ∙ sym (ap Some (sealed_same rights bytes pkru w a
+      (subst (λ (p : ℕ). IsSealed (rights p)) (sym place)
+      (asks_sealed image rights bytes q r b e asks)) allowed));
+}
 
--- arithmetic of registers
-alu_plain : (op : AluOp) (n : ℕ) (src : Src) (len : ℕ) (t : Thread)
-    → IsPlain (plan_alu op n src len t)
-unfolding plan_alu
-alu_plain op n src len t =
-    source_plain (source t src)
-    (λ x. with_outcome (onward len t) op n (alu op w32 (low_half (register t n)) x t.flags))
-
--- WRPKRU
-wrpkru_plain : (len : ℕ) (t : Thread) → IsPlain (plan_wrpkru len t)
-unfolding plan_wrpkru
-wrpkru_plain len t = elim (cases_Bool (eqb (low_half (register t 1)) 0
-    && eqb (low_half (register t 2)) 0))
-    [ inl on ↦ rw on refl | inr off ↦ rw off tt ]
-
--- no instruction so far looks at memory
-plan_plain : (insn : Insn) (len : ℕ) (t : Thread) → IsPlain (plan insn len t)
-unfolding plan plan_jcc
-plan_plain (Alu Xor W4 (Reg n) src lock) len t = alu_plain Xor n src len t
-plan_plain (Alu Cmp W4 (Reg n) src lock) len t = alu_plain Cmp n src len t
-plan_plain (Mov W4 (Reg n) (Imm i)) len t = refl
-plan_plain (Jcc c rel) len t = refl
-plan_plain Syscall len t = tt
-plan_plain Wrpkru len t = wrpkru_plain len t
-plan_plain other len t = tt
-
--- what comes of it writes nothing
-abbrev WritesNothing : Effect → Type 0
-WritesNothing (Done t w) = w ≡ None
-WritesNothing (Stopped a) = Unit {0}
-WritesNothing Called = Unit {0}
-
--- a plain plan writes nothing
-does_nothing : (p : Plan) (seen : Seen) (bytes : ByteMap) (pkru rip : ℕ) → IsPlain p
-    → WritesNothing (effect p seen bytes pkru rip)
-unfolding effect
-does_nothing (Ask a n k) seen bytes pkru rip h = absurd h
-does_nothing (Give t None) seen bytes pkru rip h = refl
-does_nothing (Give t (Some w)) seen bytes pkru rip h = absurd cc
-does_nothing Refuse seen bytes pkru rip h = tt
-does_nothing Call seen bytes pkru rip h = tt
-
--- what writes nothing keeps pages fine
-fine_did : (d : Effect) (insn : Insn) (len skip t : ℕ) (old : Thread) (s : State) → WritesNothing d
-    → Fine s → Fine (after_instruction d (record { insn = insn; len = len; skip = skip })
+-- an instruction keeps pages fine
+fine_did : (d : Effect) (insn : Insn) (len skip t : ℕ) (old : Thread) (s : State)
+    → effect (plan insn len old) (whole s.rights) s.bytes old.pkru old.rip ≡ d → Fine s
+    → Fine (after_instruction d (record { insn = insn; len = len; skip = skip })
     (record { number = t; thread = old }) s)
-fine_did (Done new None) insn len skip t old s h b = b
-fine_did (Done new (Some w)) insn len skip t old s h b = absurd cc
+fine_did (Done new w) insn len skip t old s h b =
+    backed_write s.setup.image s.rights s.bytes old.pkru w
+    (does_allowed (plan insn len old) (whole s.rights) s.bytes old.pkru old.rip new w h) b
 fine_did (Stopped (Fault cause a)) insn len skip t old s h b = b
 fine_did (Stopped (Missing q)) insn len skip t old s h b = b
 fine_did Called insn len skip t old s h b =
@@ -339,8 +341,7 @@ fine_moved : (x : FetchOutcome) (t : ℕ) (old : Thread) (s : State) → Fine s
     → Fine (after_fetch x (record { number = t; thread = old }) s)
 fine_moved (Runs insn len skip) t old s b =
     fine_did (effect (plan insn len old) (whole s.rights) s.bytes old.pkru old.rip) insn len skip t
-    old s (does_nothing (plan insn len old) (whole s.rights) s.bytes old.pkru old.rip
-    (plan_plain insn len old)) b
+    old s refl b
 fine_moved (Need x) t old s b =
     fine_fault (s.rights (x / 4096)) x (record { number = t; thread = old }) s refl b
 fine_moved Wrong t old s b = b

@@ -13,7 +13,8 @@ use Rattle.erim_defs.specs.Machine.Pages.{code_with, asks_exec}
 use Rattle.erim_defs.specs.Machine.Access.{whole}
 use Rattle.erim_defs.specs.Inspection.Image.{image_trust}
 use Rattle.erim_defs.specs.Inspection.Unsafe.{first_unsafe}
-use Rattle.erim_defs.specs.Machine.Meaning.{Effect, Done, Stopped, Called, effect, plan}
+use Rattle.erim_defs.specs.Machine.Plan.{Effect, Done, Stopped, Called, effect}
+use Rattle.erim_defs.specs.Machine.Meaning.{plan}
 use Rattle.erim_defs.specs.Machine.State.{Setup, State, code}
 use Rattle.erim_defs.specs.Machine.Calls.{Refusal, Answer, Quit, CallResult, call_result}
 use Rattle.erim_defs.specs.Machine.Step.{step, after_move, after_instruction, after_call}

@@ -1,6 +1,5 @@
 pub mod Machine
 pub mod WriteCall
-pub mod Execution
 pub mod StepFacts
 pub mod ImagePages
 pub mod Ends

@@ -1,13 +1,15 @@
 -- The state that a machine holds.
-use Rattle.std.specs.Prelude.{◌≡◌, ℕ, length, vec_capacity, ◌≤◌, ◌<◌, ◌^◌}
+use Rattle.std.specs.Prelude.{◌≡◌, ℕ, length, vec_capacity, ◌≤◌, slice_set, Bool}
 use Rattle.erim_defs.specs.declared.insn.FetchOutcome.{FetchOutcome}
 use Rattle.erim_defs.specs.declared.insn.FetchOutcome.TheVariants.{Runs, Need, Wrong}
 use Rattle.erim_defs.specs.Bits.{has_bit}
 use Rattle.erim_defs.specs.Inspection.Trust.{TrustValue}
 use Rattle.erim_defs.specs.Inspection.Image.{image_trust}
-use Rattle.erim_defs.specs.Machine.State.{Setup, State}
+use Rattle.erim_defs.specs.declared.machine.Thread.{Thread}
+use Rattle.erim_defs.specs.Machine.State.{Setup, State, first_escape}
 use Rattle.page_store.specs.Answers.{rights_in}
 use Rattle.page_store.specs.declared.memory.Memory.{Ghosts}
+use Rattle.x86_step.specs.Placed.{IsPlaced}
 use Rattle.erim_process.specs.declared.machine.Machine.{Machine}
 
 abbrev pub machine_state : {P : Type 0} → Ghosts P → Setup → Machine P → State
@@ -30,9 +32,17 @@ Becomes g trust old new f =
     (setup : Setup) → image_trust setup.image ≡ trust
     → machine_state g setup new ≡ f (machine_state g setup old)
 
+-- thread t is another from now on, and the first escape is kept
+abbrev pub settled : ℕ → Thread → Bool → State → State
+settled t thread escaped s = record s {
+  threads = slice_set s.threads t thread;
+  escape = first_escape s.escape escaped
+      (record { step = s.steps; thread = t; rip = thread.rip });
+}
+
 -- where an instruction that was fetched stands, and how long it may be
 abbrev pub IsBounded : FetchOutcome → ℕ → Type 0
-IsBounded (Runs insn len skip) rip = (rip < 2 ^ 47) × (len ≤ 15) × (skip ≤ len)
+IsBounded (Runs insn len skip) rip = IsPlaced rip len skip
 IsBounded (Need addr) rip = Unit {0}
 IsBounded Wrong rip = Unit {0}
 

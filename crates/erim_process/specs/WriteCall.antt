@@ -4,7 +4,7 @@ use Rattle.std.specs.Prelude.{is_some, if◌then◌else◌}
 use Rattle.erim_defs.specs.declared.machine.Thread.{Thread}
 use Rattle.erim_defs.specs.Machine.Pages.{RightsMap}
 use Rattle.erim_defs.specs.Machine.Access.{stop, whole}
-use Rattle.erim_defs.specs.Machine.Meaning.{register}
+use Rattle.erim_defs.specs.Machine.Registers.{register}
 
 -- the first refusal of write
 abbrev pub chosen : Bool → Bool → Bool → Option ℕ

@@ -4,19 +4,19 @@ ghost use Rattle.std.specs.Prelude.{◌≡◌, ◌<◌, ◌≤◌, ◌+◌, ◌-
 ghost use Rattle.std.specs.Prelude.{is_none, vec_capacity, IsTrue};
 ghost use Rattle.erim_defs.specs.Machine.Access.{stop, whole};
 ghost use Rattle.erim_defs.specs.Machine.Pages.{bytes_of_range};
-ghost use Rattle.erim_defs.specs.Machine.Meaning.{register};
+ghost use Rattle.erim_defs.specs.Machine.Registers.{register};
 ghost use Rattle.erim_defs.specs.Machine.Calls.{Quit, call_result};
 ghost use Rattle.erim_defs.specs.Machine.Step.{flags_word, after_call, behind_syscall};
 ghost use Rattle.erim_process.specs.Machine.{Becomes, IsRoomy};
 ghost use Rattle.page_store.specs.Answers.{rights_in};
 
 use crate::machine::Machine;
-use crate::registers::{onward, register, set_register};
 use crate::write_call::refusal;
 use erim_defs::linux::{ENOSYS, SYS_EXIT_GROUP, SYS_WRITE};
 use erim_defs::register::{R11, RAX, RCX, RDI};
 use erim_defs::{End, Flags, Thread, Trust};
 use page_store::{Memory, Pages};
+use x86_step::{onward, register, set_register};
 
 /// RFLAGS with the flags that are kept.
 fn flags_word(flags: Flags) -> u64

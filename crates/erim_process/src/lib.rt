@@ -9,13 +9,11 @@
 #![tactic(auto)]
 
 mod calls;
-mod exec;
 mod fetch;
 mod image_pages;
 mod machine;
 mod origin;
 mod process;
-mod registers;
 mod setup;
 mod start;
 mod start_fault;

@@ -4,46 +4,24 @@ ghost use Rattle.std.specs.Prelude.{◌≡◌, ◌≢◌, ◌<◌, ◌+◌, ◌/
 ghost use Rattle.erim_defs.specs.declared.machine.End.TheVariants.{Fault};
 ghost use Rattle.erim_defs.specs.declared.insn.FetchOutcome.TheVariants.{Runs};
 ghost use Rattle.erim_defs.specs.Machine.Access.{whole};
-ghost use Rattle.erim_defs.specs.Machine.Meaning.{effect, plan};
+ghost use Rattle.erim_defs.specs.Machine.Plan.{effect};
+ghost use Rattle.erim_defs.specs.Machine.Meaning.{plan};
 ghost use Rattle.erim_defs.specs.Inspection.Image.{image_trust};
 ghost use Rattle.erim_defs.specs.Machine.State.{Setup, code};
-ghost use Rattle.erim_defs.specs.Machine.Step.{is_free, step, after_fetch, after_instruction};
-ghost use Rattle.erim_defs.specs.Machine.Step.{sequence_of, after_exec_fault, fetch};
+ghost use Rattle.erim_defs.specs.Machine.Step.{step, after_fetch, after_instruction};
+ghost use Rattle.erim_defs.specs.Machine.Step.{after_exec_fault, fetch};
 ghost use Rattle.page_store.specs.Answers.{rights_in};
 ghost use Rattle.erim_process.specs.Machine.{Becomes, machine_state, IsBounded, IsRoomy};
 ghost use Rattle.erim_process.specs.StepFacts.{Publishes, answer};
 
 use crate::calls::behind_syscall;
-use crate::exec::{Exec, exec};
 use crate::fetch::fetch;
 use crate::machine::Machine;
 use crate::stepped::Stepped;
 use erim_defs::page::USER_END_PAGE;
-use erim_defs::{Cause, End, FetchOutcome, Found, Insn, SeqKind, Thread, Trust};
+use erim_defs::{Cause, End, FetchOutcome, Insn, Thread, Trust};
 use page_store::{Memory, Pages};
-
-/// The sequence that an instruction at `rip` is, if it is one.
-fn sequence_of(insn: &Insn, rip: u64, len: u8, skip: u8) -> Option<Found>
-    requires placed { IsBounded (Runs insn.now len skip) rip }
-    ensures { result ≡ sequence_of (record { insn = insn.now; len = len; skip = skip }) rip }
-{
-    match insn {
-        Insn::Wrpkru => Some(Found {
-            at: rip + u64::from(skip),
-            len: len - skip,
-            kind: SeqKind::Wrpkru,
-        }),
-        _ => None,
-    }
-}
-
-/// May the thread be open outside trusted text after this instruction without an escape?
-fn is_free(insn: &Insn, thread: &Thread) -> bool
-    ensures { result ≡ is_free insn.now thread.now }
-{
-    let _ = thread;
-    matches!(insn, Insn::Wrpkru)
-}
+use x86_step::{Exec, exec};
 
 impl<P: Pages> Machine<P> {
     /// A fault ends the process.
@@ -92,13 +70,12 @@ impl<P: Pages> Machine<P> {
         ensures count { length self.new.threads.items ≡ length self.old.threads.items }
     {
         let mut new = *thread;
-        match exec(insn, len, &mut new) {
-            Exec::Done => {
-                let executed = sequence_of(insn, thread.rip, len, skip);
-                self.go(trust, t, thread, &new, executed, is_free(insn, thread));
-            }
-            Exec::Call => self.call(trust, t, thread, &behind_syscall(thread, len)),
-            Exec::Refuse => self.fail(t, thread.rip, Cause::General, thread.rip),
+        match exec(insn, len, skip, trust, &mut new, &mut self.pages) {
+            Exec::Done { escaped } => self.settle(t, &new, escaped),
+            Exec::Syscall => self.call(trust, t, thread, &behind_syscall(thread, len)),
+            Exec::Fault { cause, addr } => self.fail(t, thread.rip, cause, addr),
+            // The pages hold every page.
+            Exec::Missing { .. } => {}
         }
     }
 

@@ -4,7 +4,7 @@ ghost use Rattle.std.specs.Prelude.{◌≡◌, ◌<◌, ◌≤◌, ◌+◌, ◌-
 ghost use Rattle.std.specs.Prelude.{None, vec_capacity};
 ghost use Rattle.erim_defs.specs.Machine.Access.{stop, whole};
 ghost use Rattle.erim_defs.specs.Machine.Pages.{bytes_of_range};
-ghost use Rattle.erim_defs.specs.Machine.Meaning.{register, with_register};
+ghost use Rattle.erim_defs.specs.Machine.Registers.{register, with_register};
 ghost use Rattle.erim_defs.specs.Machine.Calls.{write_result};
 ghost use Rattle.erim_defs.specs.Machine.Step.{after_move, after_call};
 ghost use Rattle.page_store.specs.Answers.{rights_in};
@@ -13,11 +13,11 @@ ghost use Rattle.erim_process.specs.WriteCall.{write_error};
 
 use crate::calls::are_readable;
 use crate::machine::Machine;
-use crate::registers::{low_half, register, set_register};
 use erim_defs::linux::{EBADF, EFAULT, ENOSPC};
 use erim_defs::register::{RAX, RDI, RDX, RSI};
 use erim_defs::{Thread, Trust};
 use page_store::{Memory, Pages};
+use x86_step::{register, set_register};
 
 /// The most bytes of output.
 pub(crate) const OUTPUT_LIMIT: u64 = 0x10_0000;
@@ -93,7 +93,7 @@ impl<P: Pages> Machine<P> {
             register(thread, RSI),
             register(thread, RDX),
         );
-        if low_half(fd) != 1 {
+        if fd % (1 << 32) != 1 {
             return Some(EBADF);
         }
         if !are_readable(&mut self.pages, thread.pkru, buf, n) {

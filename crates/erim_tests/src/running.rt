@@ -46,6 +46,23 @@ xor eax, eax; je back
 | 401000 5 1 0 31c074fc | - | 401000 7 1000000
 | output 0//steps 1000000/end spent/escape none/
 thread 0 steps 1000000 pkru 0x55555554/worker 0 steps 1000000/;
+closed memory: write answers EFAULT
+| 401000 5 1 0 bf01000000be00404000ba08000000b8010000000f0589c7b8e70000000f05,
+404000 6 1 0 4142434445464748 | 2 404000 1000 | 401000 0 9
+| output 0//steps 9/end exit 242/escape none/
+thread 0 steps 9 pkru 0x55555554/worker 0 steps 9/;
+mov rax, 0x7FFFFFFFFFFC; mov rax, [rax]
+| 401000 5 1 0 48b8fcffffffff7f0000488b00 | - | 401000 1 3
+| output 0//steps 3/end fault unmapped thread 0 rip 0x00000040100a at 0x7ffffffffffc/
+escape none/thread 0 steps 3 pkru 0x55555554/worker 0 steps 3/;
+mov rax, 2^63; jmp rax
+| 401000 5 1 0 48b80000000000000080ffe0 | - | 401000 1 4
+| output 0//steps 4/end fault exec thread 0 rip 0x8000000000000000 at 0x8000000000000000/
+escape none/thread 0 steps 4 pkru 0x55555554/worker 0 steps 4/;
+mov byte [0x401100], 1 into its own page
+| 401000 5 1 0 c604250011400001 | - | 401000 1 2
+| output 0//steps 2/end fault write thread 0 rip 0x000000401000 at 0x000000401100/
+escape none/thread 0 steps 2 pkru 0x55555554/worker 0 steps 2/;
 an entry one byte early
 | 401000 5 1 0 90, 402000 5 1 0 31c931d2b8505555550f01ef | 1 402000 1000, 3 40200b 0 | 401000 3 -
 | erim: image trusted wrpkru at 0x000000402009/;

@@ -19,7 +19,8 @@ use Rattle.erim_defs.specs.Machine.Access.{opens, whole}
 use Rattle.erim_defs.specs.Inspection.Image.{IsAccepted, loaded_byte, segments, touches}
 use Rattle.erim_defs.specs.Inspection.Image.{trusted_code, image_trust, is_writable, is_executable}
 use Rattle.erim_defs.specs.Inspection.Unsafe.{first_unsafe}
-use Rattle.erim_defs.specs.Machine.Meaning.{Effect, Done, Stopped, Called, effect, plan}
+use Rattle.erim_defs.specs.Machine.Plan.{Effect, Done, Stopped, Called, effect}
+use Rattle.erim_defs.specs.Machine.Meaning.{plan}
 use Rattle.erim_defs.specs.Machine.State.{Setup, State, code, trust_of}
 use Rattle.erim_defs.specs.Machine.Calls.{Change, Refusal, Answer, Quit, CallResult, call_result}
 use Rattle.erim_defs.specs.Machine.Step.{step, after_move, after_instruction, after_call}

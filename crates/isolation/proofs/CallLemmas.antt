@@ -4,7 +4,7 @@ use Rattle.std.proofs.Common.{eqb, ltb, not, is_some, refl, subst, inl}
 use Rattle.erim_defs.specs.declared.machine.Thread.{Thread}
 use Rattle.erim_defs.specs.Machine.Pages.{bytes_of_range}
 use Rattle.erim_defs.specs.Machine.Access.{stop, whole}
-use Rattle.erim_defs.specs.Machine.Meaning.{register}
+use Rattle.erim_defs.specs.Machine.Registers.{register}
 use Rattle.erim_defs.specs.Machine.State.{State, code}
 use Rattle.erim_defs.specs.Machine.Calls.{Change, Answer, or_refuse, CallResult, no_change}
 use Rattle.erim_defs.specs.Machine.Calls.{write_result, call_result}

@@ -12,8 +12,9 @@ use Rattle.erim_defs.specs.declared.insn.FetchOutcome.TheVariants.{Runs}
 use Rattle.erim_defs.specs.Machine.Pages.{ByteMap}
 use Rattle.erim_defs.specs.Machine.Access.{Seen, whole}
 use Rattle.erim_defs.specs.Inspection.Image.{image_trust}
-use Rattle.erim_defs.specs.Machine.Meaning.{Plan, Give, Effect, Done, Called, effect, plan}
-use Rattle.erim_defs.specs.Machine.Meaning.{register}
+use Rattle.erim_defs.specs.Machine.Plan.{Plan, Give, Effect, Done, Called, effect}
+use Rattle.erim_defs.specs.Machine.Registers.{register}
+use Rattle.erim_defs.specs.Machine.Meaning.{plan}
 use Rattle.erim_defs.specs.Machine.State.{State, code, with_origin, is_outside, trust_of}
 use Rattle.erim_defs.specs.Machine.Calls.{Quit, CallResult, call_result}
 use Rattle.erim_defs.specs.Machine.Step.{after_instruction, after_call, after_fetch, sequence_of}
@@ -139,7 +140,8 @@ checks_in s new t old g at m w =
         (length (check_bytes (trust_of s) w.origin.kind (w.origin.at + w.origin.len) w.position)) 0
         → after_fetch (Runs (check_insn (trust_of s) w.origin.kind (w.origin.at + w.origin.len)
         w.position) (length (check_bytes (trust_of s) w.origin.kind (w.origin.at + w.origin.len)
-        w.position)) 0) (record { number = t; thread = old }) (record s { steps = s.steps + 1 }) ≡ new → ChecksOn s new t old
+        w.position)) 0) (record { number = t; thread = old }) (record s { steps = s.steps + 1 })
+        ≡ new → ChecksOn s new t old
     by_place (inl l) e k =
         ends s new t old (check_insn (trust_of s) w.origin.kind (w.origin.at + w.origin.len)
         w.position) (length (check_bytes (trust_of s) w.origin.kind (w.origin.at + w.origin.len)

@@ -18,11 +18,13 @@ use Rattle.erim_defs.specs.declared.insn.FetchOutcome.{FetchOutcome}
 use Rattle.erim_defs.specs.declared.insn.FetchOutcome.TheVariants.{Runs, Need, Wrong}
 use Rattle.erim_defs.specs.Machine.Pages.{RightsMap, ByteMap, published_code, code_with}
 use Rattle.erim_defs.specs.Machine.Pages.{is_published, with_value_at, asks_exec, published_rights}
-use Rattle.erim_defs.specs.Machine.Access.{whole, opens, stop}
+use Rattle.erim_defs.specs.Machine.Access.{whole, opens}
 use Rattle.erim_defs.specs.Inspection.Image.{image_trust}
 use Rattle.erim_defs.specs.Inspection.Unsafe.{first_unsafe}
-use Rattle.erim_defs.specs.Machine.Meaning.{Write, Effect, Done, Stopped, Called, effect, plan}
-use Rattle.erim_defs.specs.Machine.Meaning.{bytes_after_write, register, with_register, onward}
+use Rattle.erim_defs.specs.Machine.Plan.{Write, Effect, Done, Stopped, Called, effect}
+use Rattle.erim_defs.specs.Machine.Plan.{bytes_after_write}
+use Rattle.erim_defs.specs.Machine.Registers.{register, with_register, onward}
+use Rattle.erim_defs.specs.Machine.Meaning.{plan}
 use Rattle.erim_defs.specs.Machine.State.{State, code, with_origin, is_escape, is_outside}
 use Rattle.erim_defs.specs.Machine.State.{first_escape, trust_of}
 use Rattle.erim_defs.specs.Machine.Calls.{Change, Refusal, Answer, Quit, CallResult, call_result}
@@ -33,15 +35,16 @@ use Rattle.erim_defs.specs.Machine.Step.{after_verdict, after_exec_fault, ready_
 use Rattle.erim_defs.specs.Machine.Step.{after_step_of, if_live, fetch, Runner}
 use Rattle.erim_defs.specs.Machine.Isolation.{IsKept, IsRuled, KeepsText, Stands}
 use Rattle.erim_defs.proofs.LossLemmas.{Loses}
+use Rattle.erim_defs.proofs.WriteLemmas.{IsAllowed, does_allowed, sealed_same}
 use Rattle.isolation.proofs.SequenceLemmas.{is_there, unsafe_loses}
 use Rattle.isolation.proofs.DecoderFacts.{Decoder}
 use Rattle.isolation.proofs.ListLemmas.{OfCode}
-use Rattle.isolation.proofs.PlanLemmas.{Goes, does_gives, plan_goes}
+use Rattle.isolation.proofs.PlanLemmas.{done_goes}
 use Rattle.isolation.proofs.StandLemmas.{IsLow, EntriesIn, did_stands, called_stands, stands_in}
 use Rattle.isolation.proofs.ThreadLemmas.{stands_same, each_at, each_set, each_append, KeepsOrigins}
 use Rattle.isolation.proofs.ThreadLemmas.{each_kept, origins_same, each_grown, settled_origin}
-use Rattle.isolation.proofs.MemoryLemmas.{NotWritable, does_allowed, made_same, code_same}
-use Rattle.isolation.proofs.MemoryLemmas.{first_none, made_unmapped}
+use Rattle.isolation.proofs.MemoryLemmas.{NotWritable, published_sealed, unmapped_sealed}
+use Rattle.isolation.proofs.MemoryLemmas.{code_same, first_none}
 use Rattle.erim_defs.specs.Inspection.Trust.{in_text_of}
 
 -- ---- what a kept state says
@@ -153,27 +156,39 @@ text_published : (s : State) → IsKept s → (q : ℕ) → in_text_of (trust_of
     → is_published (s.rights q) ≡ true
 text_published s h q t = let k = h.text q t in rw k.mapped k.exec
 
--- a write that was allowed
+-- a write that was allowed leaves published bytes
+published_same : (s : State) (pkru : ℕ) (w : Option Write) (x : ℕ) → IsKept s
+    → IsAllowed (whole s.rights) pkru w → is_published (s.rights (x / 4096)) ≡ true
+    → bytes_after_write w s.bytes x ≡ s.bytes x
+published_same s pkru w x h a p = sealed_same s.rights s.bytes pkru w x
+    (published_sealed s.rights (x / 4096) (not_writable s h) p) a
+
+-- so the code stays
+code_after : (s : State) (pkru : ℕ) (w : Option Write) (x : ℕ) → IsKept s
+    → IsAllowed (whole s.rights) pkru w
+    → published_code s.rights (bytes_after_write w s.bytes) x ≡ code s x
+code_after s pkru w x h a = code_same s.rights s.bytes (bytes_after_write w s.bytes) x
+    (published_same s pkru w x h a)
+
 pub kept_write : (s : State) (pkru : ℕ) (w : Option Write) → IsKept s
-    → ((y : Write) → w ≡ Some y → stop (whole s.rights) true pkru y.addr y.count ≡ None)
+    → IsAllowed (whole s.rights) pkru w
     → IsKept (record s { bytes = bytes_after_write w s.bytes })
 kept_write s pkru w h a =
-    let same = λ (x : ℕ). code_same s.rights s.bytes (bytes_after_write w s.bytes) x
-    (λ p. made_same s.rights s.bytes pkru w x (not_writable s h) a p) in
     kept_frame s s.rights (bytes_after_write w s.bytes) s.keys s.output h h.ruled
-    (λ x. inl (same x))
+    (λ x. inl (code_after s pkru w x h a))
     (λ q t. (let k = h.text q t in record {
       held = k.held;
       mapped = k.mapped;
       exec = k.exec;
       key = k.key;
-      same = λ x e. made_same s.rights s.bytes pkru w x (not_writable s h) a
+      same = λ x e. published_same s pkru w x h a
           (subst (λ (p : ℕ). is_published (s.rights p) ≡ true) (sym e) (text_published s h q t))
           ∙ k.same x e;
     }))
     h.keys (origins_same (published_code s.rights (bytes_after_write w s.bytes)) (code s) s.threads
-    same) h.low
-    (λ x n. made_unmapped s.rights s.bytes pkru w x a n ∙ h.zeros x n)
+    (λ x. code_after s pkru w x h a)) h.low
+    (λ x n. sealed_same s.rights s.bytes pkru w x (unmapped_sealed (s.rights (x / 4096)) n) a
+    ∙ h.zeros x n)
 
 stands_on : (s : State) (w : Option Write) (t : Thread)
     → ((x : ℕ) → published_code s.rights (bytes_after_write w s.bytes) x ≡ code s x)
@@ -206,16 +221,12 @@ pub kept_done : {N : ℕ → Type 0} → Decoder N
     (record { number = t; thread = old }) s)
 kept_done {N} d s insn len skip t old new w ent of h run done =
     let next : State = record s { bytes = bytes_after_write w s.bytes } in
-    let allowed = λ (y : Write) (e : w ≡ Some y). does_allowed (plan insn len old) (whole s.rights)
-    s.bytes old.pkru old.rip new y
-    (subst (λ (v : Option Write). effect (plan insn len old) (whole s.rights) s.bytes old.pkru
-    old.rip ≡ Done new v) e done) in
+    let allowed = does_allowed (plan insn len old) (whole s.rights) s.bytes old.pkru old.rip new w
+    done in
     let k = kept_write s old.pkru w h allowed in
     let regs = running_regs s t old h run.at in
-    let goes = does_gives (Goes insn len old) (plan insn len old) (whole s.rights) s.bytes old.pkru
-    old.rip new w (plan_goes insn len old) done in
-    let same = λ (x : ℕ). code_same s.rights s.bytes (bytes_after_write w s.bytes) x
-    (λ p. made_same s.rights s.bytes old.pkru w x (not_writable s h) allowed p) in
+    let goes = done_goes insn len old new w (whole s.rights) s.bytes old.pkru old.rip done in
+    let same = λ (x : ℕ). code_after s old.pkru w x h allowed in
     kept_went next t old new (sequence_of (record { insn = insn; len = len; skip = skip }) old.rip)
     (is_free insn old) k (goes.regs ∙ regs)
     (λ e g esc. stands_on s w

@@ -20,8 +20,9 @@ use Rattle.erim_defs.specs.Inspection.Occurrence.{occurrence_at}
 use Rattle.erim_defs.specs.Inspection.Safe.{opens_gate, fits}
 use Rattle.erim_defs.specs.Inspection.Unsafe.{first_unsafe}
 use Rattle.erim_defs.specs.Inspection.Image.{image_trust}
-use Rattle.erim_defs.specs.Machine.Meaning.{Write, Effect, Done, Stopped, Called, effect, plan}
-use Rattle.erim_defs.specs.Machine.Meaning.{with_register}
+use Rattle.erim_defs.specs.Machine.Plan.{Effect, Done, Stopped, Called, effect}
+use Rattle.erim_defs.specs.Machine.Registers.{with_register}
+use Rattle.erim_defs.specs.Machine.Meaning.{plan}
 use Rattle.erim_defs.specs.Machine.State.{State, code, with_origin, trust_of}
 use Rattle.erim_defs.specs.Machine.Calls.{Change, Refusal, Answer, Quit, CallResult, call_result}
 use Rattle.erim_defs.specs.Machine.Step.{is_free, after_move, after_instruction, after_call}
@@ -32,7 +33,7 @@ use Rattle.erim_defs.specs.Machine.Isolation.{IsSafeCode}
 use Rattle.isolation.specs.Laws.{Opened, OpenLaw}
 use Rattle.isolation.proofs.SequenceLemmas.{check_fits, occurrence_long, occurrence_there}
 use Rattle.isolation.proofs.ListLemmas.{wrpkru_fact}
-use Rattle.isolation.proofs.PlanLemmas.{Goes, does_gives, plan_goes}
+use Rattle.isolation.proofs.PlanLemmas.{Goes, done_goes}
 use Rattle.isolation.proofs.StandLemmas.{fetched_decoded, low_at}
 use Rattle.isolation.proofs.KeptLemmas.{code_kind, kept_later, kept_low}
 use Rattle.isolation.proofs.CallLemmas.{all_fine}
@@ -111,15 +112,15 @@ replied_not (Refusal e) t i old new a b s at p q f g c o =
     b at p f g c o
 replied_not (Answer v ch) t i old new a b s at p q f g c o =
     let n : Thread = with_origin (trust_of s) None (caller_after v ch new) in
-    let u = set_some s.threads t i n a f in
-    let z : slice_get (with_new_thread ch.made
-    (after_move (record {
+    let moved : State = after_move (record {
       runner = record { number = t; thread = old };
-      after = (caller_after v ch new);
+      after = caller_after v ch new;
       executed = None;
-      free =
-          false;
-    }) (with_change ch s))).threads i ≡ Some u.0 = made_get ch.made (after_move (record { runner = record { number = t; thread = old }; after = (caller_after v ch new); executed = None; free = false }) (with_change ch s)) i u.0 u.1 in
+      free = false;
+    }) (with_change ch s) in
+    let u = set_some s.threads t i n a f in
+    let z : slice_get (with_new_thread ch.made moved).threads i ≡ Some u.0 =
+    made_get ch.made moved i u.0 u.1 in
     let k : Some u.0 ≡ Some b = sym z ∙ g in
     let y : u.0 ≡ b = cc in
     went_not s.threads t i old n a b at (q v ch refl ∙ p) f (u.1 ∙ ap Some y) c o
@@ -151,11 +152,11 @@ behind_gate trust c o rip safe e r = elim (cases_Bool (opens_gate trust o.kind (
   | inr n ↦ inr (rw r (check_fits trust c o safe e n))
 ]
 
-opened_wrpkru : (s : State) (t i : ℕ) (a b new : Thread) (len skip : ℕ) (w : Option Write)
-    → IsGood Known s → i ≡ t → fetch (code s) a.rip ≡ Runs Wrpkru len skip → Goes Wrpkru len a new w
+opened_wrpkru : (s : State) (t i : ℕ) (a b new : Thread) (len skip : ℕ)
+    → IsGood Known s → i ≡ t → fetch (code s) a.rip ≡ Runs Wrpkru len skip → Goes Wrpkru len a new
     → b ≡ with_origin (trust_of s) (sequence_of (record { insn = Wrpkru; len = len; skip = skip })
     a.rip) new → Opened s t i a b
-opened_wrpkru s t i a b new len skip w h own f g is =
+opened_wrpkru s t i a b new len skip h own f g is =
     let k = wrpkru_fact decoder (code s) a.rip len skip (code_kind Known s h.kind)
     (fetched_decoded (code s) a.rip Wrpkru len skip f) in
     let o : Found = record { at = a.rip + skip; len = len - skip; kind = WrpkruKind } in
@@ -182,22 +183,21 @@ opened_wrpkru s t i a b new len skip w h own f g is =
     }
 
 opened_free : (s : State) (t i : ℕ) (a b new : Thread) (insn : Insn) (len skip : ℕ)
-    (w : Option Write) → IsGood Known s → i ≡ t → fetch (code s) a.rip ≡ Runs insn len skip
-    → Goes insn len a new w
+    → IsGood Known s → i ≡ t → fetch (code s) a.rip ≡ Runs insn len skip → Goes insn len a new
     → b ≡ with_origin (trust_of s) (sequence_of (record { insn = insn; len = len; skip = skip })
     a.rip) new → is_free insn a ≡ true → Opened s t i a b
-opened_free s t i a b new Wrpkru len skip w h own f g is free =
-    opened_wrpkru s t i a b new len skip w h own f g is
-opened_free s t i a b new other len skip w h own f g is free = absurd cc
+opened_free s t i a b new Wrpkru len skip h own f g is free =
+    opened_wrpkru s t i a b new len skip h own f g is
+opened_free s t i a b new other len skip h own f g is free = absurd cc
 
 opened_done : (s : State) (t i : ℕ) (old a b new : Thread) (insn : Insn) (len skip : ℕ)
-    (w : Option Write) → IsGood Known s → slice_get s.threads t ≡ Some old
-    → fetch (code s) old.rip ≡ Runs insn len skip → Goes insn len old new w
+    → IsGood Known s → slice_get s.threads t ≡ Some old
+    → fetch (code s) old.rip ≡ Runs insn len skip → Goes insn len old new
     → slice_get s.threads i ≡ Some a
     → slice_get (slice_set s.threads t
     (with_origin (trust_of s) (sequence_of (record { insn = insn; len = len; skip = skip })
     old.rip) new)) i ≡ Some b → opens a.pkru 1 ≡ false → opens b.pkru 1 ≡ true → Opened s t i a b
-opened_done s t i old a b new insn len skip w h at f g e k c o =
+opened_done s t i old a b new insn len skip h at f g e k c o =
     elim (cases_Bool (is_free insn old)) [
       | inr n ↦ absurd (went_not s.threads t i old
           (with_origin (trust_of s) (sequence_of (record { insn = insn; len = len; skip = skip })
@@ -216,9 +216,9 @@ opened_done s t i old a b new insn len skip w h at f g e k c o =
     moved_own own is free =
         let y : Some old ≡ Some a = sym at ∙ sym (ap (slice_get s.threads) own) ∙ e in
         let z : old ≡ a = cc in
-        opened_free s t i a b new insn len skip w h own
+        opened_free s t i a b new insn len skip h own
         (ap (λ (x : Thread). fetch (code s) x.rip) (sym z) ∙ f) (let P : Thread
-        → Type 0 = λ x. Goes insn len x new w in subst P z g) (is
+        → Type 0 = λ x. Goes insn len x new in subst P z g) (is
         ∙ ap (λ (x : Thread). with_origin (trust_of s)
         (sequence_of (record { insn = insn; len = len; skip = skip }) x.rip)
         new) z) (ap (is_free insn) (sym z) ∙ free)
@@ -236,9 +236,8 @@ did_opened : (d : Effect) (s : State) (t i : ℕ) (old a b : Thread) (insn : Ins
       steps = s.steps + 1;
     })).threads i ≡ Some b → opens a.pkru 1 ≡ false → opens b.pkru 1 ≡ true → Opened s t i a b
 did_opened (Done new w) s t i old a b insn len skip h at f r e k c o =
-    opened_done s t i old a b new insn len skip w h at f
-    (does_gives (Goes insn len old) (plan insn len old) (whole s.rights) s.bytes old.pkru
-    old.rip new w (plan_goes insn len old) r) e k c o
+    opened_done s t i old a b new insn len skip h at f
+    (done_goes insn len old new w (whole s.rights) s.bytes old.pkru old.rip r) e k c o
 did_opened (Stopped (Fault x y)) s t i old a b insn len skip h at f r e k c o =
     absurd (same_not (slice_get s.threads i) a b e k c o)
 did_opened (Stopped (Missing q)) s t i old a b insn len skip h at f r e k c o =

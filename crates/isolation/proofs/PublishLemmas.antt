@@ -22,7 +22,8 @@ use Rattle.erim_defs.specs.Inspection.Safe.{unsafe_at}
 use Rattle.erim_defs.specs.Inspection.Unsafe.{first_below, first_unsafe, list_below, option_list}
 use Rattle.erim_defs.specs.Inspection.Unsafe.{top, unsafe_list}
 use Rattle.erim_defs.specs.Inspection.Image.{image_trust}
-use Rattle.erim_defs.specs.Machine.Meaning.{Effect, Done, Stopped, Called, effect, plan}
+use Rattle.erim_defs.specs.Machine.Plan.{Effect, Done, Stopped, Called, effect}
+use Rattle.erim_defs.specs.Machine.Meaning.{plan}
 use Rattle.erim_defs.specs.Machine.State.{State, code}
 use Rattle.erim_defs.specs.Machine.Calls.{Change, Refusal, Answer, Quit, CallResult, call_result}
 use Rattle.erim_defs.specs.Machine.Step.{after_move, after_instruction, after_call, after_fetch}

@@ -3,7 +3,7 @@ use Rattle.std.proofs.Common.{◌≡◌, ◌≢◌, ◌+◌, ℕ, Option, Some, 
 use Rattle.std.proofs.Common.{get_or-set_other}
 use Rattle.std.specs.Prelude.{slice_get, slice_set}
 use Rattle.erim_defs.specs.declared.machine.Thread.{Thread}
-use Rattle.erim_defs.specs.Machine.Meaning.{register, onward}
+use Rattle.erim_defs.specs.Machine.Registers.{register, onward}
 use Rattle.erim_defs.specs.Machine.State.{State, code, trust_of}
 use Rattle.erim_defs.specs.Machine.Step.{flags_word, step, after_fetch, behind_syscall}
 use Rattle.erim_defs.specs.Machine.Step.{ready_thread, after_step_of, fetch}

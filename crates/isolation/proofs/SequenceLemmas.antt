@@ -1,14 +1,13 @@
 -- Occurrences and checks in two codes: what stays where bytes stay, and what lost bytes can't make.
-use Rattle.std.proofs.Common.{◌≡◌, ◌<◌, ◌≤◌, ◌+◌, ◌⊎◌, ℕ, zero, suc, ◌-◌, List, [], ◌∷◌, Option}
-use Rattle.std.proofs.Common.{Some, None, Bool, true, false, cond, refl, sym, ap, ◌∙◌, arith, inl}
+use Rattle.std.proofs.Common.{◌≡◌, ◌<◌, ◌≤◌, ◌+◌, ℕ, zero, suc, ◌-◌, Option}
+use Rattle.std.proofs.Common.{Some, None, Bool, true, false, refl, sym, ap, ◌∙◌, arith, inl}
 use Rattle.std.proofs.Common.{inr}
-use Rattle.std.proofs.lemmas.Bool.{cases_Bool, and_parts, and_from}
 use Rattle.erim_defs.specs.declared.found.Found.{Found}
 use Rattle.erim_defs.specs.Inspection.Code.{Code}
 use Rattle.erim_defs.specs.Inspection.Occurrence.{occurrence_at}
 use Rattle.erim_defs.specs.Inspection.Safe.{fits, opens_gate, is_safe, unless_safe, unsafe_at}
 use Rattle.erim_defs.specs.Machine.Isolation.{IsSafeCode}
-use Rattle.erim_defs.proofs.LossLemmas.{Loses, cond_safe, fits_loses, safe_loses}
+use Rattle.erim_defs.proofs.LossLemmas.{Loses, cond_safe, safe_loses}
 use Rattle.erim_defs.proofs.OccurrenceLemmas.{WrpkruAt, occurrence_view, occurrence_place}
 use Rattle.erim_defs.specs.Inspection.Check.{check_of}
 use Rattle.erim_defs.specs.Inspection.Trust.{TrustValue}

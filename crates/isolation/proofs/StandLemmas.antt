@@ -21,9 +21,10 @@ use Rattle.erim_defs.specs.Inspection.Code.{Code, or_else}
 use Rattle.erim_defs.specs.Machine.Pages.{ByteMap, code_bytes}
 use Rattle.erim_defs.specs.Machine.Access.{Seen, opens}
 use Rattle.erim_defs.specs.Encoding.Decoding.{decode}
+use Rattle.erim_defs.specs.Machine.Plan.{Plan, Give, Write, Done, Called, effect}
+use Rattle.erim_defs.specs.Machine.Registers.{onward, with_register, eax, register}
 use Rattle.erim_defs.specs.Machine.Alu.{alu, condition}
-use Rattle.erim_defs.specs.Machine.Meaning.{Plan, Give, Write, Done, Called, effect, plan, plan_alu}
-use Rattle.erim_defs.specs.Machine.Meaning.{plan_jcc, onward, with_register, eax, register}
+use Rattle.erim_defs.specs.Machine.Meaning.{plan, plan_alu, plan_jcc, plan_mov}
 use Rattle.erim_defs.specs.Machine.State.{with_origin, is_escape, is_outside, is_open}
 use Rattle.erim_defs.specs.Machine.Step.{is_free, sequence_of, fetch, fetch_as}
 use Rattle.erim_defs.specs.Machine.Isolation.{IsSafeCode, IsInCheck, Stands, PositionFact}
@@ -31,7 +32,7 @@ use Rattle.isolation.proofs.SequenceLemmas.{is_there, occurrence_there, occurren
 use Rattle.isolation.proofs.DecoderFacts.{Decoder}
 use Rattle.isolation.proofs.ListLemmas.{OfCode, wrpkru_fact}
 use Rattle.isolation.proofs.CheckLemmas.{check_fetched}
-use Rattle.isolation.proofs.PlanLemmas.{Goes, does_gives, plan_goes}
+use Rattle.isolation.proofs.PlanLemmas.{Goes, done_goes}
 use Rattle.erim_defs.specs.Inspection.Trust.{in_text_of, TrustValue, is_entry_of}
 use Rattle.erim_defs.specs.Inspection.Check.{Position, Compare, Branch, Number, Leave, check_insn}
 use Rattle.erim_defs.specs.Inspection.Check.{check_bytes, position_start, closed_value}
@@ -125,12 +126,12 @@ no_gate trust a rip h f e = elim (cases_Bool (is_entry_of trust a)) [
 
 -- out behind WRPKRU: at the start of its check
 wrpkru_stands : {N : ℕ → Type 0} → Decoder N
-    → (trust : TrustValue) (c : Code) (len skip : ℕ) (t new : Thread) (w : Option Write)
+    → (trust : TrustValue) (c : Code) (len skip : ℕ) (t new : Thread)
     → EntriesIn trust → OfCode N c → IsLow c
-    → fetch c t.rip ≡ Runs Wrpkru len skip → Goes Wrpkru len t new w
+    → fetch c t.rip ≡ Runs Wrpkru len skip → Goes Wrpkru len t new
     → Stands trust c (with_origin trust
     (sequence_of (record { insn = Wrpkru; len = len; skip = skip }) t.rip) new)
-wrpkru_stands d trust c len skip t new w ent of low f g = elim (cases_Bool (is_outside trust new)) [
+wrpkru_stands d trust c len skip t new ent of low f g = elim (cases_Bool (is_outside trust new)) [
   | inr n ↦ stands_in trust c (sequence_of (record { insn = Wrpkru; len = len; skip = skip }) t.rip)
       new n
   | inl out ↦
@@ -165,13 +166,13 @@ wrpkru_stands d trust c len skip t new w ent of low f g = elim (cases_Bool (is_o
 -- after a step that is no escape the thread stands, whatever it was
 pub free_stands : {N : ℕ → Type 0} → Decoder N
     → (trust : TrustValue) (c : Code) (insn : Insn) (len skip : ℕ) (t new : Thread)
-    (w : Option Write) → EntriesIn trust → OfCode N c → IsLow c
-    → fetch c t.rip ≡ Runs insn len skip → is_free insn t ≡ true → Goes insn len t new w
+    → EntriesIn trust → OfCode N c → IsLow c
+    → fetch c t.rip ≡ Runs insn len skip → is_free insn t ≡ true → Goes insn len t new
     → Stands trust c (with_origin trust
     (sequence_of (record { insn = insn; len = len; skip = skip }) t.rip) new)
-free_stands d trust c Wrpkru len skip t new w ent of low f a g =
-    wrpkru_stands d trust c len skip t new w ent of low f g
-free_stands d trust c other len skip t new w ent of low f a g = absurd cc
+free_stands d trust c Wrpkru len skip t new ent of low f a g =
+    wrpkru_stands d trust c len skip t new ent of low f g
+free_stands d trust c other len skip t new ent of low f a g = absurd cc
 
 -- ---- in its check
 
@@ -186,7 +187,7 @@ place_after trust WrpkruKind next Leave len t = t
 pub place_plan : (trust : TrustValue) (k : SeqKind) (next : ℕ) (p : Position) (len : ℕ) (t : Thread)
     → p ≢ Leave → PositionFact trust k next p t
     → plan (check_insn trust k next p) len t ≡ Give (place_after trust k next p len t) None
-unfolding plan plan_alu plan_jcc condition
+unfolding plan plan_alu plan_jcc plan_mov condition
 place_plan trust WrpkruKind next Compare len t n f = refl
 place_plan trust WrpkruKind next Branch len t n f = rw f refl
 place_plan trust WrpkruKind next Number len t n f = refl
@@ -328,7 +329,9 @@ check_stands d trust c t new wr insn len skip seen bytes pkru rip of safe low re
     by_place (inr n) j l =
         let p : plan insn len t ≡ Give (place_after trust w.origin.kind (w.origin.at + w.origin.len)
         w.position (length (check_bytes trust w.origin.kind (w.origin.at + w.origin.len)
-        w.position)) t) None = rw (j, l) (place_plan trust w.origin.kind (w.origin.at + w.origin.len) w.position _ t n w.fact) in
+        w.position)) t) None =
+        rw (j, l) (place_plan trust w.origin.kind (w.origin.at + w.origin.len) w.position _ t n
+        w.fact) in
         let e = done_is (place_after trust w.origin.kind (w.origin.at + w.origin.len) w.position
         (length (check_bytes trust w.origin.kind (w.origin.at + w.origin.len) w.position))
         t) new wr (plan insn len t) seen bytes pkru rip p h in
@@ -369,7 +372,7 @@ pub did_stands : {N : ℕ → Type 0} → Decoder N
     (sequence_of (record { insn = insn; len = len; skip = skip }) t.rip) new)
 did_stands d trust c t new wr insn len skip seen bytes pkru rip ent of safe low regs st f h esc =
     elim (cases_Bool (is_free insn t)) [
-      | inl e ↦ free_stands d trust c insn len skip t new wr ent of low f e goes
+      | inl e ↦ free_stands d trust c insn len skip t new ent of low f e goes
       | inr e ↦ elim (cases_Bool (is_outside trust new)) [
         | inr n ↦ stands_in trust c (sequence_of (record { insn = insn; len = len; skip = skip })
             t.rip)
@@ -384,9 +387,8 @@ did_stands d trust c t new wr insn len skip seen bytes pkru rip ent of safe low 
       ]
     ]
   where
-    goes : Goes insn len t new wr
-    goes = does_gives (Goes insn len t) (plan insn len t) seen bytes pkru rip new wr
-        (plan_goes insn len t) h
+    goes : Goes insn len t new
+    goes = done_goes insn len t new wr seen bytes pkru rip h
 
 done_not : (t : Thread) (p : Plan) (seen : Seen) (bytes : ByteMap) (pkru rip : ℕ) → p ≡ Give t None
     → effect p seen bytes pkru rip ≡ Called → ⊥

@@ -18,8 +18,10 @@ use Rattle.erim_defs.specs.Machine.Pages.{RightsMap, ByteMap, word, bytes_of_ran
 use Rattle.erim_defs.specs.Machine.Access.{Seen, stop, stop_at, stop_by, stop_on, whole, opens}
 use Rattle.erim_defs.specs.Machine.Access.{opens_write}
 use Rattle.erim_defs.specs.Inspection.Image.{image_trust}
-use Rattle.erim_defs.specs.Machine.Meaning.{Plan, Ask, Give, Refuse, Call, plan, register}
-use Rattle.erim_defs.specs.Machine.State.{Setup, State, code, is_inside, is_outside, trust_of}
+use Rattle.erim_defs.specs.Machine.Plan.{Plan, Ask, Give, Refuse, Call}
+use Rattle.erim_defs.specs.Machine.Registers.{register}
+use Rattle.erim_defs.specs.Machine.Meaning.{plan}
+use Rattle.erim_defs.specs.Machine.State.{State, code, is_inside, is_outside, trust_of}
 use Rattle.erim_defs.specs.Machine.Calls.{Change, Answer, Quit, CallResult, no_change, write_result}
 use Rattle.erim_defs.specs.Machine.Calls.{call_result}
 use Rattle.erim_defs.specs.Machine.Step.{behind_syscall, fetch}
@@ -27,7 +29,7 @@ use Rattle.erim_defs.specs.Machine.Isolation.{Stands, PositionFact}
 use Rattle.isolation.specs.Laws.{Reaches, Changes, PageRights, PageBytes, MakesCall, Touches}
 use Rattle.isolation.specs.Laws.{ByInsn, ByWrite, ByCall, TouchLaw, has_key}
 use Rattle.isolation.proofs.CheckLemmas.{check_fetched}
-use Rattle.isolation.proofs.MemoryLemmas.{stop_or_none}
+use Rattle.erim_defs.proofs.WriteLemmas.{stop_or_none}
 use Rattle.isolation.proofs.StandLemmas.{called_check, is_leave, place_after, place_plan, runs_same}
 use Rattle.isolation.proofs.KeptLemmas.{code_kind, entered_zero, reply_quit}
 use Rattle.isolation.proofs.CallLemmas.{refuse_answer, answer_is}

@@ -16,8 +16,9 @@ use Rattle.erim_defs.specs.Inspection.Safe.{opens_gate, fits}
 use Rattle.erim_defs.specs.Inspection.Unsafe.{unsafe_list}
 use Rattle.erim_defs.specs.Inspection.Image.{IsAccepted}
 use Rattle.erim_defs.specs.Encoding.Parts.{AreBytes}
-use Rattle.erim_defs.specs.Machine.Meaning.{Plan, Ask, Give, Refuse, Call, Called, effect, plan}
-use Rattle.erim_defs.specs.Machine.Meaning.{register}
+use Rattle.erim_defs.specs.Machine.Plan.{Plan, Ask, Give, Refuse, Call, Called, effect}
+use Rattle.erim_defs.specs.Machine.Registers.{register}
+use Rattle.erim_defs.specs.Machine.Meaning.{plan}
 use Rattle.erim_defs.specs.Machine.State.{Setup, State, code, is_inside, is_outside, trust_of}
 use Rattle.erim_defs.specs.Machine.State.{is_open}
 use Rattle.erim_defs.specs.Machine.Calls.{Change, Answer, call_result}

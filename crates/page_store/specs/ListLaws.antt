@@ -1,7 +1,7 @@
 -- What always holds of pages in a list.
 use Rattle.std.proofs.Common.{◌≡◌, ◌<◌, ◌≤◌, ◌^◌, ◌/◌, ◌%◌, ℕ, Some, Option, List, [], ◌∷◌, true}
 use Rattle.std.proofs.Common.{eqb, None, refl, arith, inl, inr, eqb-true}
-use Rattle.std.proofs.lemmas.Bool.{cases_Bool}
+use Rattle.std.proofs.lemmas.Bool.{cases_Bool, cases_lt}
 use Rattle.std.proofs.lemmas.Bool.Decides.{nat_tests}
 use Rattle.erim_defs.specs.declared.machine.Rights.{Rights}
 use Rattle.page_store.specs.declared.page_list.Page.{Page}
@@ -26,6 +26,14 @@ list_rights_high (p ∷ ps) q h l = elim (cases_Bool (eqb p.number q)) [
   | inl t ↦ absurd (let same : p.number ≡ q = eqb-true _ _ t in
       let low : p.number < 2 ^ 35 = fresh-low p ps (grind arith) in omega arith)
   | inr t ↦ rw t (list_rights_high ps q (grind arith) l)
+]
+
+-- a page with rights is below 2^35
+pub list_low : (ps : List Page) (q : ℕ) (r : Rights) → is_listed ps ≡ true
+    → list_rights ps q ≡ Some r → q < 2 ^ 35
+list_low ps q r h e = elim (cases_lt q (2 ^ 35)) [
+  | inl l ↦ l
+  | inr l ↦ absurd (let k = list_rights_high ps q h l in cc)
 ]
 
 none_zero : (o : Option Page) (i : ℕ) → rights_of o ≡ None → byte_of o i ≡ 0

@@ -33,6 +33,10 @@ pub trait Memory {
     /// the start.
     ghost notes: { Self → NoteMap };
 
+    /// The byte at each noted address as it was when the notes began. Of a memory that keeps no
+    /// notes it says nothing.
+    ghost first: { Self → ByteMap };
+
     /// Writes the published bytes from `addr` on, up to the first absent one and at most 15, and
     /// answers how many there are. `Err` names the page that isn't held, if one is reached before
     /// that; then nothing is written.
@@ -46,7 +50,8 @@ pub trait Memory {
         ensures frames { frames self.new ≡ frames self.old }
         ensures spare { spare self.old ≤ spare self.new + 2 }
         ensures notes { Notes (seen self.old) (notes self.old) (notes self.new)
-            (looked_fetch (seen self.old) addr 15) };
+            (looked_fetch (seen self.old) addr 15) }
+        ensures first { first self.new ≡ first self.old };
 
     /// The number in the `n` bytes from `addr` on, low byte first. `n` is 1, 2, 4 or 8. `Err` is of
     /// the first byte that may not be read.
@@ -60,7 +65,8 @@ pub trait Memory {
         ensures frames { frames self.new ≡ frames self.old }
         ensures spare { spare self.old ≤ spare self.new + 1 }
         ensures notes { Notes (seen self.old) (notes self.old) (notes self.new)
-            (looked_access (seen self.old) false pkru addr n) };
+            (looked_access (seen self.old) false pkru addr n) }
+        ensures first { first self.new ≡ first self.old };
 
     /// Writes the low `n` bytes of a value to those from `addr` on, low byte first. `n` is 1, 2, 4
     /// or 8. `Err` is of the first byte that may not be written, and then nothing was written.
@@ -74,7 +80,11 @@ pub trait Memory {
         ensures frames { frames self.new ≡ frames self.old }
         ensures spare { spare self.old ≤ spare self.new + 1 }
         ensures notes { Notes (seen self.old) (notes self.old) (notes self.new)
-            (looked_access (seen self.old) true pkru addr n) };
+            (looked_access (seen self.old) true pkru addr n) }
+        ensures first { first self.new ≡ first self.old };
+
+    /// Pages that it holds as mapped are below 2^35.
+    ghost low: { (s : Self) (q : ℕ) → 2 ^ 35 ≤ q → rights_in (seen s) q ≡ None };
 }
 
 /// The pages of a process. It holds every page, and none of these calls takes memory.
@@ -124,6 +134,8 @@ pub trait Pages: Memory {
     fn copy_page(&self, page: u64, into: &mut PageCopy)
         ensures page { into.new.page ≡ page }
         ensures rights { into.new.rights ≡ rights_in (Self.seen self.now) page }
+        ensures sound { IfSome into.new.rights IsSound }
+        ensures low { IsSome into.new.rights → page < 2 ^ 35 }
         ensures long { length into.new.bytes ≡ 4096 }
         ensures bytes { (i : ℕ) → i < 4096
             → slice_index into.new.bytes i ≡ Self.bytes self.now (4096 * page + i) };
@@ -137,9 +149,6 @@ pub trait Pages: Memory {
 
     /// It holds every page.
     ghost holds_all: { (s : Self) → Self.seen s ≡ whole (rights_in (Self.seen s)) };
-
-    /// Mapped pages are below 2^35.
-    ghost low: { (s : Self) (q : ℕ) → 2 ^ 35 ≤ q → rights_in (Self.seen s) q ≡ None };
 
     /// The byte of an unmapped page is 0.
     ghost zeros: { (s : Self) (a : ℕ) → rights_in (Self.seen s) (a / 4096) ≡ None

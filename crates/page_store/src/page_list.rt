@@ -207,6 +207,8 @@ fn nearer(number: u64, from: u64, least: Option<u64>) -> Option<u64>
 }
 
 impl Memory for PageList {
+    ghost use Rattle.page_store.specs.ListLaws.{list_rights_high};
+
     ghost seen = { λ s. whole (list_rights s.pages.items) };
 
     ghost bytes = { λ s. list_bytes s.pages.items };
@@ -216,6 +218,10 @@ impl Memory for PageList {
     ghost spare = { λ _. 16 };
 
     ghost notes = { λ _ _. true };
+
+    ghost first = { λ _ _. 0 };
+
+    ghost low = { λ s q l. list_rights_high s.pages.items q s.listed l };
 
     #[tactic(auto, using(crate::proofs::NoteLemmas::no_notes))]
     fn fetch(&mut self, addr: u64, into: &mut [u8; 15]) -> Result<u8, u64> {
@@ -250,11 +256,9 @@ impl Memory for PageList {
 }
 
 impl Pages for PageList {
-    ghost use Rattle.page_store.specs.ListLaws.{list_rights_high, list_zeros, list_sound};
+    ghost use Rattle.page_store.specs.ListLaws.{list_zeros, list_sound};
 
     ghost holds_all = { λ s. refl };
-
-    ghost low = { λ s q l. list_rights_high s.pages.items q s.listed l };
 
     ghost zeros = { λ s a n. list_zeros s.pages.items a n };
 

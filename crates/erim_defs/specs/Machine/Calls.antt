@@ -8,7 +8,7 @@ use Rattle.erim_defs.specs.declared.linux.TheConstants.{SYS_EXIT_GROUP, SYS_WRIT
 use Rattle.erim_defs.specs.declared.register.TheConstants.{RAX, RDI, RDX, RSI}
 use Rattle.erim_defs.specs.Machine.Pages.{RightsMap, ByteMap, bytes_of_range}
 use Rattle.erim_defs.specs.Machine.Access.{stop, whole}
-use Rattle.erim_defs.specs.Machine.Meaning.{register}
+use Rattle.erim_defs.specs.Machine.Registers.{register}
 use Rattle.erim_defs.specs.Machine.State.{State}
 
 -- what a call that isn't refused may change

@@ -17,7 +17,7 @@ use Rattle.erim_defs.specs.Inspection.Safe.{opens_gate, unsafe_at}
 use Rattle.erim_defs.specs.Inspection.Image.{IsAccepted, trusted_code, image_trust}
 use Rattle.erim_defs.specs.Machine.Pages.{RightsMap, ByteMap, IsSound, asks_exec, asks_write}
 use Rattle.erim_defs.specs.Encoding.Parts.{AreBytes}
-use Rattle.erim_defs.specs.Machine.Meaning.{eax, register}
+use Rattle.erim_defs.specs.Machine.Registers.{eax, register}
 use Rattle.erim_defs.specs.Machine.State.{Setup, State, code, trust_of, is_outside}
 use Rattle.erim_defs.specs.Machine.Start.{image_byte, frames_needed}
 use Rattle.erim_defs.specs.Machine.Replay.{replay}

@@ -26,8 +26,9 @@ use Rattle.erim_defs.specs.Machine.Pages.{with_value_at}
 use Rattle.erim_defs.specs.Machine.Access.{whole}
 use Rattle.erim_defs.specs.Inspection.Unsafe.{first_unsafe}
 use Rattle.erim_defs.specs.Encoding.Decoding.{decode}
-use Rattle.erim_defs.specs.Machine.Meaning.{Effect, Done, Stopped, Called, effect, plan}
-use Rattle.erim_defs.specs.Machine.Meaning.{bytes_after_write, with_register, onward}
+use Rattle.erim_defs.specs.Machine.Plan.{Effect, Done, Stopped, Called, effect, bytes_after_write}
+use Rattle.erim_defs.specs.Machine.Registers.{with_register, onward}
+use Rattle.erim_defs.specs.Machine.Meaning.{plan}
 use Rattle.erim_defs.specs.Machine.State.{State, code, trust_of, with_origin, is_escape}
 use Rattle.erim_defs.specs.Machine.State.{first_escape}
 use Rattle.erim_defs.specs.Machine.Calls.{Change, CallResult, Refusal, Answer, Quit, call_result}

@@ -45,7 +45,7 @@ returns-in-Insn-clause-placed g c =
     c.fetch.array_long in
     let l = fetch_low (g.P.Memory.seen c.args.pages.now) (g.P.Memory.bytes c.args.pages.now)
     c.args.rip c.in-Ok.count c.fetch.new.into
-    (g.met.P.Pages.holds_all c.args.pages.now) (g.met.P.Pages.low c.args.pages.now)
+    (g.met.P.Pages.holds_all c.args.pages.now) (g.met.P.Memory.low c.args.pages.now)
     c.in-Ok.ensures.answer.1 (omega (arith, v.0, v.2, e)) in
     (l, v.1, v.3)
 
@@ -57,7 +57,7 @@ overflow_add-result g c =
       | inl t ↦ (let n = c.in-Ok.ensures.answer.0 in let p : 0 < c.in-Ok.count = ltb-true _ _ t in
           let l = fetch_low (g.P.Memory.seen c.args.pages.now) (g.P.Memory.bytes c.args.pages.now)
           c.args.rip c.in-Ok.count c.fetch.new.into
-          (g.met.P.Pages.holds_all c.args.pages.now) (g.met.P.Pages.low c.args.pages.now)
+          (g.met.P.Pages.holds_all c.args.pages.now) (g.met.P.Memory.low c.args.pages.now)
           c.in-Ok.ensures.answer.1 (omega (arith, p, e)) in omega (arith, n, l))
       | inr f ↦ (let z : c.in-Ok.count ≤ 0 = ltb-false _ _ f in
           let r : c.args.rip < 2 ^ 64 = omega arith in omega (arith, z, r))

@@ -1,6 +1,6 @@
 use Rattle.std.proofs.Common.{ap, ◌∙◌, ◌%◌}
 use Rattle.erim_defs.specs.declared.machine.End.TheVariants.{Exit}
-use Rattle.erim_defs.specs.Machine.Meaning.{register}
+use Rattle.erim_defs.specs.Machine.Registers.{register}
 use Rattle.erim_defs.specs.Machine.Step.{with_end}
 use Rattle.erim_process.specs.Machine.{machine_state}
 use Rattle.erim_process.proofs.machine.Machine.exit.Goals as goal

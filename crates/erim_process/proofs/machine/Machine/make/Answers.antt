@@ -1,6 +1,7 @@
 use Rattle.std.proofs.Common.{◌≡◌, ◌/◌, ap, ◌∙◌, refl, subst, sym}
 use Rattle.erim_defs.specs.Machine.Access.{whole}
-use Rattle.erim_defs.specs.Machine.Meaning.{effect, plan}
+use Rattle.erim_defs.specs.Machine.Plan.{effect}
+use Rattle.erim_defs.specs.Machine.Meaning.{plan}
 use Rattle.erim_defs.specs.Machine.State.{State}
 use Rattle.erim_defs.specs.Machine.Step.{after_instruction, after_exec_fault, after_fetch}
 use Rattle.erim_process.specs.Machine.{machine_state}

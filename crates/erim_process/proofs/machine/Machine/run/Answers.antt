@@ -1,61 +1,41 @@
-use Rattle.std.proofs.Common.{sym, ap, ◌∙◌}
-use Rattle.erim_defs.specs.Machine.Access.{whole}
-use Rattle.erim_defs.specs.Machine.Meaning.{plan, Effect}
-use Rattle.erim_defs.specs.Machine.Step.{after_move, after_instruction, after_call, sequence_of}
-use Rattle.erim_process.specs.Machine.{machine_state}
-use Rattle.erim_process.proofs.RunLemmas.{done_is, call_is, refuse_is}
+use Rattle.std.proofs.Common.{◌≡◌, sym, ap, ◌∙◌, refl}
+use Rattle.erim_defs.specs.Machine.Plan.{Effect, Called}
+use Rattle.erim_defs.specs.Machine.State.{State}
 use Rattle.erim_defs.specs.Machine.Calls.{call_result}
+use Rattle.erim_defs.specs.Machine.Step.{after_call, after_instruction, CodedInsn, Runner}
+use Rattle.erim_process.specs.Machine.{machine_state}
+use Rattle.x86_step.specs.Execution.{bytes_after}
+use Rattle.erim_process.proofs.CallLemmas.{same_machine}
+use Rattle.erim_process.proofs.MoveLemmas.{call_is, effect_on, run_done, whole_effect}
 use Rattle.erim_process.proofs.machine.Machine.run.Goals as goal
 
 pub returns-in-Done-clause-state : goal.returns-in-Done-clause-state
 returns-in-Done-clause-state g c = λ setup trust.
-    let s = machine_state g.P.Memory setup c.args.self.now in
-    let t = c.args.thread.now in
-    let insn = c.args.insn.now in
-    let d = done_is (plan insn c.args.len t) t c.exec.new.thread (whole s.rights) s.bytes t.pkru
-    t.rip c.in-Done.ensures in
-    c.go.ensures.state setup trust
-    ∙ ap (λ m. after_move (record {
-      runner = record { number = c.args.t; thread = t };
-      after = c.exec.new.thread;
-      executed = m;
-      free =
-          c.is_free.result;
-    }) s) c.sequence_of-executed.ensures
-    ∙ ap (λ f. after_move (record {
-      runner = record { number = c.args.t; thread = t };
-      after = c.exec.new.thread;
-      executed =
-          (sequence_of (record { insn = insn; len = c.args.len; skip = c.args.skip }) t.rip);
-      free =
-          f;
-    }) s) c.is_free.ensures
-    ∙ sym (ap (λ (x : Effect). after_instruction x
-    (record { insn = insn; len = c.args.len; skip = c.args.skip })
-    (record { number = c.args.t; thread = t }) s) d)
+    c.settle.ensures.state setup
+    ∙ run_done g.P.Memory setup c.args.self.now c.exec.new.memory c.args.trust.now
+    (record { insn = c.args.insn.now; len = c.args.len; skip = c.args.skip })
+    (record { number = c.args.t; thread = c.args.thread.now }) c.exec.new.thread
+    c.in-Done.escaped (g.met.P.Pages.holds_all c.args.self.now.pages) trust c.in-Done.ensures.seen
+    c.in-Done.ensures.answer c.in-Done.ensures.thread c.in-Done.ensures.bytes
 
-pub returns-in-Call-clause-state : goal.returns-in-Call-clause-state
-returns-in-Call-clause-state g c = λ setup trust.
-    let s = machine_state g.P.Memory setup c.args.self.now in
+pub returns-in-Syscall-clause-state : goal.returns-in-Syscall-clause-state
+returns-in-Syscall-clause-state g c = λ setup trust.
+    let m = c.args.self.now in
+    let s : State = machine_state g.P.Memory setup m in
     let t = c.args.thread.now in
-    let insn = c.args.insn.now in
-    let d = call_is (plan insn c.args.len t) t c.exec.new.thread (whole s.rights) s.bytes t.pkru
-    t.rip c.in-Call.ensures in
+    let i : CodedInsn = record { insn = c.args.insn.now; len = c.args.len; skip = c.args.skip } in
+    let r : Runner = record { number = c.args.t; thread = t } in
+    let e = effect_on i r (g.P.Memory.seen m.pages) (g.P.Memory.bytes m.pages) in
+    let called : e ≡ Called = call_is e c.args.trust.now i t c.in-Syscall.ensures.answer in
+    let bytes : g.P.Memory.bytes c.exec.new.memory ≡ g.P.Memory.bytes m.pages =
+    c.in-Syscall.ensures.bytes
+    ∙ ap (λ (x : Effect). bytes_after x (g.P.Memory.bytes m.pages)) called in
+    let same : machine_state g.P.Memory setup (record m { pages = c.exec.new.memory }) ≡ s =
+    same_machine g.P.Memory setup m (record m { pages = c.exec.new.memory }) refl
+    (c.in-Syscall.ensures.seen, bytes, c.in-Syscall.ensures.frames) in
     c.call.ensures.state setup trust
-    ∙ ap (λ n. after_call (call_result s c.args.t n) (record { number = c.args.t; thread = t }) n s)
-    c.behind_syscall.ensures
-    ∙ sym (ap (λ (x : Effect). after_instruction x
-    (record { insn = insn; len = c.args.len; skip = c.args.skip })
-    (record { number = c.args.t; thread = t }) s) d)
-
-pub returns-in-Refuse-clause-state : goal.returns-in-Refuse-clause-state
-returns-in-Refuse-clause-state g c = λ setup trust.
-    let s = machine_state g.P.Memory setup c.args.self.now in
-    let t = c.args.thread.now in
-    let insn = c.args.insn.now in
-    let d = refuse_is (plan insn c.args.len t) t c.exec.new.thread (whole s.rights) s.bytes t.pkru
-    t.rip c.in-Refuse.ensures in
-    ap (machine_state g.P.Memory setup) c.fail.ensures.end
-    ∙ sym (ap (λ (x : Effect). after_instruction x
-    (record { insn = insn; len = c.args.len; skip = c.args.skip })
-    (record { number = c.args.t; thread = t }) s) d)
+    ∙ ap (λ (x : State). after_call (call_result x c.args.t c.behind_syscall.result) r
+    c.behind_syscall.result x) same
+    ∙ ap (λ n. after_call (call_result s c.args.t n) r n s) c.behind_syscall.ensures
+    ∙ sym (ap (λ (x : Effect). after_instruction x i r s) called)
+    ∙ whole_effect g.P.Memory setup m i r (g.met.P.Pages.holds_all m.pages)

@@ -1,0 +1,3 @@
+pub mod BoundaryLemmas
+pub mod ExecutesLemmas
+pub mod WordLemmas

@@ -1,0 +1,15 @@
+use Rattle.std.proofs.Common.{rules}
+use Rattle.erim_defs.specs.Machine.Meaning.{plan_test}
+use Rattle.x86_step.proofs.ExecutesLemmas.{gives_is}
+use Rattle.x86_step.proofs.arithmetic.exec_test.Goals as goal
+
+pub returns-in_err-b-clause-executes : goal.returns-in_err-b-clause-executes
+unfolding plan_test
+returns-in_err-b-clause-executes g c =
+    c.in_ok-a.ensures.gets _ _ _ _ (search rules)
+
+pub returns-clause-executes : goal.returns-clause-executes
+unfolding plan_test
+returns-clause-executes g c =
+    c.in_ok-a.ensures.gets _ _ _ _ (c.in_ok-b.ensures.gets _ _ _ _ (gives_is g.M.Memory _ _ _ _
+    (cc)))

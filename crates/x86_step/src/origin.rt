@@ -1,0 +1,67 @@
+//! The origin of a thread, and the escape.
+
+ghost use Rattle.std.specs.Prelude.{◌≡◌};
+ghost use Rattle.erim_defs.specs.Machine.State.{is_escape, is_inside, is_outside, with_origin};
+ghost use Rattle.erim_defs.specs.Machine.Step.{is_free, sequence_of};
+ghost use Rattle.x86_step.specs.Placed.{IsPlaced};
+
+use erim_defs::page::TRUSTED_KEY;
+use erim_defs::{Found, Insn, SeqKind, Thread, Trust};
+use thread_state::opens;
+
+/// Is the thread open, and outside trusted text?
+pub(crate) fn is_outside(trust: &Trust, thread: &Thread) -> bool
+    ensures { result ≡ is_outside trust.now thread.now }
+{
+    opens(thread.pkru, TRUSTED_KEY) && !trust.is_trusted(thread.rip)
+}
+
+/// Is the thread open, and in trusted text?
+pub(crate) fn is_inside(trust: &Trust, thread: &Thread) -> bool
+    ensures { result ≡ is_inside trust.now thread.now }
+{
+    opens(thread.pkru, TRUSTED_KEY) && trust.is_trusted(thread.rip)
+}
+
+/// Was the thread open in trusted text, and is it afterwards open outside it? A step that is free
+/// of it never escapes.
+pub fn is_escape(trust: &Trust, free: bool, before: &Thread, after: &Thread) -> bool
+    ensures { result ≡ is_escape trust.now free before.now after.now }
+{
+    !free && is_inside(trust, before) && is_outside(trust, after)
+}
+
+/// Gives a thread its origin after a step. `executed` is the sequence that the step executed, if it
+/// is one.
+pub fn set_origin(trust: &Trust, executed: Option<Found>, thread: &mut Thread)
+    ensures { thread.new ≡ with_origin trust.now executed thread.old }
+{
+    thread.origin = if is_outside(trust, thread) {
+        executed.or(thread.origin)
+    } else {
+        None
+    };
+}
+
+/// The sequence that an instruction at `rip` is, if it is one.
+pub(crate) fn sequence_of(insn: &Insn, rip: u64, len: u8, skip: u8) -> Option<Found>
+    requires placed { IsPlaced rip len skip }
+    ensures { result ≡ sequence_of (record { insn = insn.now; len = len; skip = skip }) rip }
+{
+    match insn {
+        Insn::Wrpkru => Some(Found {
+            at: rip + u64::from(skip),
+            len: len - skip,
+            kind: SeqKind::Wrpkru,
+        }),
+        _ => None,
+    }
+}
+
+/// May the thread be open outside trusted text after this instruction without an escape?
+pub(crate) fn is_free(insn: &Insn, thread: &Thread) -> bool
+    ensures { result ≡ is_free insn.now thread.now }
+{
+    let _ = thread;
+    matches!(insn, Insn::Wrpkru)
+}
