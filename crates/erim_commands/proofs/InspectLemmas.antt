@@ -10,7 +10,7 @@ use Rattle.erim_defs.specs.Inspection.Safe.{unsafe_at}
 use Rattle.erim_defs.specs.Output.Texts.{unsafe_line}
 use Rattle.erim_defs.specs.Inspection.Trust.{TrustValue}
 use Rattle.erim_defs.specs.Inspection.Unsafe.{list_below, unsafe_list, IsFirstUnsafe}
-use Rattle.erim_defs.proofs.UnsafeLemmas.{list_below_none, length-list_below, walk_next, walk_ends}
+use Rattle.erim_defs.proofs.UnsafeLemmas.{list_below_none, walk_next, walk_ends}
 
 -- a line for each sequence, and how many there are
 pub record Tells (os : List Found) (text : List ℕ) (n : ℕ) : Type 0 where

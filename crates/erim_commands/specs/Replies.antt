@@ -20,8 +20,7 @@ use Rattle.erim_defs.specs.Output.Texts.{error_line}
 use Rattle.erim_defs.specs.Inspection.Unsafe.{unsafe_list}
 use Rattle.erim_process.specs.declared.start_fault.StartFault.{StartFault}
 use Rattle.erim_process.specs.declared.start_fault.StartFault.TheVariants.{TrustedUnsafe}
-use Rattle.erim_process.specs.declared.start_fault.StartFault.TheVariants.{TooFewFrames, NotYet}
-use Rattle.erim_process.specs.declared.start_fault.StartFault.TheVariants.{Memory}
+use Rattle.erim_process.specs.declared.start_fault.StartFault.TheVariants.{TooFewFrames, Memory}
 use Rattle.erim_process.specs.StartFaults.{start_fault}
 use Rattle.erim_commands.specs.declared.reply.Status.{Status}
 use Rattle.erim_commands.specs.declared.reply.Status.TheVariants.{Done, AtFault, Spent}
@@ -51,7 +50,6 @@ abbrev pub start_text : StartFault → List ℕ
 start_text (TrustedUnsafe found) =
     codes "image trusted " ++ kind_text found.kind ++ codes " at " ++ address_text found.at
 start_text (TooFewFrames needed) = codes "image needs " ++ decimal needed ++ codes " frames"
-start_text NotYet = codes "image not yet"
 -- never told: `start_fault` isn't want of memory
 start_text Memory = codes "out of memory"
 

@@ -31,6 +31,7 @@ pub fn kind_text(kind: SeqKind) -> &'static str
 {
     match kind {
         SeqKind::Wrpkru => "wrpkru",
+        SeqKind::Xrstor => "xrstor",
     }
 }
 
@@ -111,7 +112,6 @@ fn named_start_fault(alloc: Global, fault: &StartFault) -> Result<String, AllocE
             format!(in alloc; "erim: image trusted {kind} at {at}\n")
         }
         StartFault::TooFewFrames { needed } => frames_line(alloc, *needed),
-        StartFault::NotYet => format!(in alloc; "erim: image not yet\n"),
         // As above.
         StartFault::Memory => format!(in alloc; "erim: out of memory\n"),
     }

@@ -1,7 +1,7 @@
 -- Instructions of each kind on registers and memory, computed whole: decoded, executed, with every
 -- register and flag and the bytes that they may have written. The values are those of a processor
 -- (SDM volume 2, the instructions by name); a flag that the SDM leaves undefined is as before.
-use Rattle.std.proofs.Common.{◌≡◌, ℕ, ◌+◌, ◌==◌, ◌||◌, Bool, Option, Some, None, List, [], ◌∷◌, map}
+use Rattle.std.proofs.Common.{◌≡◌, ℕ, ◌+◌, ◌==◌, Option, Some, None, List, [], ◌∷◌, map}
 use Rattle.std.proofs.Common.{length, refl}
 use Rattle.std.specs.Prelude.{slice_set, codes, if◌then◌else◌, false, true}
 use Rattle.std.specs.List.{list_any}
@@ -12,8 +12,7 @@ use Rattle.erim_defs.specs.declared.machine.Cause.{Cause}
 use Rattle.erim_defs.specs.declared.machine.Cause.TheVariants.{Unmapped, Read, Write, Key, General}
 use Rattle.erim_defs.specs.declared.machine.End.{End}
 use Rattle.erim_defs.specs.declared.machine.End.TheVariants.{Fault}
-use Rattle.erim_defs.specs.declared.machine.Rights.{Rights}
-use Rattle.erim_defs.specs.declared.register.TheConstants.{RAX, RBP, RCX, RDI, RDX, RSI, RSP}
+use Rattle.erim_defs.specs.declared.register.TheConstants.{RAX, RBP, RCX, RDX, RSI, RSP}
 use Rattle.erim_defs.specs.Machine.Pages.{RightsMap, word}
 use Rattle.erim_defs.specs.Machine.State.{State}
 use Rattle.erim_defs.proofs.SmallMachine.{step_by, state_of, thread_at, small_rights}

@@ -10,6 +10,7 @@ mod DisasmRows
 pub mod FaultLemmas
 pub mod FirstUnsafeLemmas
 mod FlagRows
+mod GateRows
 pub mod ImageLemmas
 mod ImageRows
 mod InsnRows
@@ -40,6 +41,7 @@ mod TextRows
 mod TrustedRows
 pub mod UnsafeLemmas
 mod WordRows
+mod XrstorRows
 pub mod PartLemmas
 pub mod OperandLemmas
 pub mod TableLemmas
@@ -55,4 +57,5 @@ pub mod DecodeLemmas
 pub mod FieldLemmas
 pub mod LengthLemmas
 pub mod CheckEncodings
+pub mod SequenceEncodings
 pub mod Exact

@@ -1,6 +1,6 @@
 -- Code that lost bytes: it has no more unsafe sequences.
 use Rattle.std.proofs.Common.{◌≡◌, ℕ, suc, ◌+◌, ◌⊎◌, Bool, true, false, cond, List, []}
-use Rattle.std.proofs.Common.{◌∷◌, Option, Some, None, refl, sym, ap, ◌∙◌, inl, inr}
+use Rattle.std.proofs.Common.{◌∷◌, Option, Some, None, is_some, refl, sym, inl, inr}
 use Rattle.std.proofs.lemmas.Bool.{cases_Bool, and_parts, and_from}
 use Rattle.erim_defs.specs.declared.found.Found.{Found}
 use Rattle.erim_defs.specs.Inspection.Check.{check_of}
@@ -9,30 +9,24 @@ use Rattle.erim_defs.specs.Inspection.Occurrence.{occurrence_at}
 use Rattle.erim_defs.specs.Inspection.Safe.{fits, opens_gate, is_safe, unless_safe, unsafe_at}
 use Rattle.erim_defs.specs.Inspection.Trust.{TrustValue}
 use Rattle.erim_defs.specs.Inspection.Unsafe.{first_unsafe, top}
-use Rattle.erim_defs.proofs.OccurrenceLemmas.{occurrence_view}
+use Rattle.erim_defs.proofs.OccurrenceLemmas.{occurrence_same, occurrence_there}
 use Rattle.erim_defs.proofs.UnsafeLemmas.{none_first_below, first_below_none}
 
 -- c is d, but for bytes that are absent
 abbrev pub Loses : Code → Code → Type 0
 Loses c d = (x : ℕ) → (c x ≡ d x) ⊎ (c x ≡ None)
 
--- a byte that is there is the other's too
-kept_byte : (c d : Code) (x y : ℕ) → Loses c d → c x ≡ Some y → d x ≡ Some y
-kept_byte c d x y less there = elim (less x) [
-  | inl same ↦ sym same ∙ there
-  | inr gone ↦ (let e : None ≡ Some y = sym gone ∙ there in absurd cc)
-]
+-- a byte that is still there is as it was
+pub there_same : (c d : Code) (x : ℕ) → Loses c d → is_some (c x) ≡ true → c x ≡ d x
+there_same c d x less there =
+    elim (less x) [ inl e ↦ e | inr e ↦ absurd (let k : false ≡ true = rw e at there in cc) ]
 
 -- an occurrence is one of the other code too
 occurrence_kept : (c d : Code) (a : ℕ) (o : Found) → Loses c d → occurrence_at c a ≡ Some o
     → occurrence_at d a ≡ Some o
-unfolding occurrence_at
 occurrence_kept c d a o less h =
-    let w = occurrence_view c a o h in
-    let first = kept_byte c d a 0x0F less w.first in
-    let second = kept_byte c d (a + 1) 0x01 less w.second in
-    let third = kept_byte c d (a + 2) 0xEF less w.third in
-    rw (first, second, third) (ap Some (sym w.is))
+    occurrence_same d c a o h
+    (λ x low high. sym (there_same c d x less (occurrence_there c a o h x low high)))
 
 -- fewer bytes contradict less
 pub fits_loses : (c d : Code) (a : ℕ) (check : List ℕ) → Loses c d → fits d a check ≡ true
@@ -61,7 +55,8 @@ cond_safe true o h = refl
 cond_safe false o h = absurd cc
 
 -- a lost byte makes nothing unsafe at an address
-unsafe_loses : (trust : TrustValue) (c d : Code) (a : ℕ) → Loses c d → unsafe_at trust d a ≡ None
+pub unsafe_loses : (trust : TrustValue) (c d : Code) (a : ℕ) → Loses c d
+    → unsafe_at trust d a ≡ None
     → unsafe_at trust c a ≡ None
 unfolding unsafe_at
 unsafe_loses trust c d a less h = by (occurrence_at c a) refl

@@ -1,7 +1,9 @@
 -- What instructions leave as they were: a line for each part of a plan, and one for each kind.
-use Rattle.std.proofs.Common.{◌≡◌, ◌≢◌, ℕ, length, Option, Some, None, Bool}
-use Rattle.std.proofs.Common.{true, false, cond, eqb, refl, subst, ◌∙◌, length-set}
-use Rattle.std.specs.Prelude.{ℤ}
+use Rattle.std.proofs.Common.{◌≡◌, ◌≢◌, ℕ, zero, suc, ◌+◌, ◌%◌, ◌^◌, ◌==◌, ◌&&◌, length, Option}
+use Rattle.std.proofs.Common.{Some, None, Bool, true, false, cond, eqb, List, [], ◌∷◌, refl, sym}
+use Rattle.std.proofs.Common.{subst, ◌∙◌, length-set, inl, inr}
+use Rattle.std.specs.Prelude.{ℤ, slice_index}
+use Rattle.std.proofs.lemmas.Bool.{cases_Bool}
 use Rattle.erim_defs.specs.declared.machine.Thread.{Thread}
 use Rattle.erim_defs.specs.declared.machine.Flags.{Flags}
 use Rattle.erim_defs.specs.declared.machine.Outcome.{Outcome}
@@ -31,8 +33,8 @@ use Rattle.erim_defs.specs.Machine.Plan.{Plan, Ask, Give, Refuse, Call, Write, E
 use Rattle.erim_defs.specs.Machine.Plan.{unless, effect_of_write}
 use Rattle.erim_defs.specs.Machine.Registers.{byte_count, operand, register, with_register}
 use Rattle.erim_defs.specs.Machine.Registers.{with_low, with_operand, with_flags, onward}
-use Rattle.erim_defs.specs.Machine.Registers.{jump, next_rip, low_half}
-use Rattle.erim_defs.specs.Machine.Operands.{on_place, on_source, write_to, push}
+use Rattle.erim_defs.specs.Machine.Registers.{jump, next_rip, low_half, eax}
+use Rattle.erim_defs.specs.Machine.Operands.{address, on_place, on_source, write_to, push}
 use Rattle.erim_defs.specs.Machine.Alu.{condition}
 use Rattle.erim_defs.specs.Machine.Meaning.{plan, plan_alu, plan_test, plan_unary, plan_shift}
 use Rattle.erim_defs.specs.Machine.Meaning.{plan_imul, plan_bt, plan_mov, plan_xchg, plan_lea}
@@ -40,7 +42,11 @@ use Rattle.erim_defs.specs.Machine.Meaning.{plan_movsx, plan_movzx, plan_cmov, p
 use Rattle.erim_defs.specs.Machine.Meaning.{plan_spread, plan_push, plan_pop, plan_leave, plan_jcc}
 use Rattle.erim_defs.specs.Machine.Meaning.{plan_call, plan_jmp_to, plan_call_to, plan_ret}
 use Rattle.erim_defs.specs.Machine.Meaning.{plan_xadd, plan_cmpxchg, plan_rdpkru, write_outcome}
-use Rattle.erim_defs.specs.Machine.Meaning.{write_back}
+use Rattle.erim_defs.specs.Machine.Meaning.{write_back, plan_wrpkru, plan_xrstor, on_numbers}
+use Rattle.erim_defs.specs.Machine.Meaning.{is_header, restore_pkru}
+use Rattle.erim_defs.specs.Machine.Step.{is_free}
+use Rattle.erim_defs.specs.Bits.{has_bit}
+use Rattle.erim_defs.specs.Inspection.Check.{pkru_bit}
 
 -- ---- what comes of a plan
 
@@ -93,7 +99,7 @@ on_place_all P n (At m) len t k h = h
 on_place_all P n (Reg r) len t k h = h (operand n (Reg r) t)
 on_place_all P n (High r) len t k h = h (operand n (High r) t)
 
--- ---- every kind but WRPKRU
+-- ---- every kind that leaves PKRU
 
 -- what it leaves
 pub record Plain (t new : Thread) : Type 0 where
@@ -301,8 +307,31 @@ unfolding plan_rdpkru
 rdpkru_plain len t = cond_all (λ new v. Plain t new) (eqb (low_half (register t 1)) 0) _ Refuse
     (set_plain t _ 2 0 (set_plain t _ 0 t.pkru (moved_plain t _ _))) tt
 
+numbers_all : (P : Thread → Option Write → Type 0) (n a : ℕ) (k : List ℕ → Plan)
+    → ((xs : List ℕ) → AllGive P (k xs)) → AllGive P (on_numbers n a k)
+unfolding on_numbers
+numbers_all P zero a k h = h []
+numbers_all P (suc n) a k h =
+    λ x. numbers_all P n (a + 8) (λ xs. k (x ∷ xs)) (λ xs. h (x ∷ xs))
+
+-- what each way of XRSTOR to its end has, its plan has
+xrstor_all : (P : Thread → Option Write → Type 0) (m : Mem) (len : ℕ) (t : Thread)
+    → ((header : List ℕ) → AllGive P (restore_pkru (address m len t) header len t))
+    → AllGive P (plan_xrstor m len t)
+unfolding plan_xrstor
+xrstor_all P m len t h =
+    cond_all P (address m len t % 64 == 0) _ Refuse
+    (numbers_all P 8 (address m len t + 512) _ (λ header.
+    cond_all P (is_header header) _ Refuse (h header) tt)) tt
+
+-- it isn't asked for PKRU
+xrstor_plain : (m : Mem) (len : ℕ) (t : Thread) → has_bit (eax t) pkru_bit ≡ false
+    → AllPlain t (plan_xrstor m len t)
+xrstor_plain m len t n =
+    xrstor_all (λ new v. Plain t new) m len t (λ header. rw n (moved_plain t _ _))
+
 -- one line a kind
-pub plan_plain : (insn : Insn) (len : ℕ) (t : Thread) → insn ≢ Wrpkru
+plan_plain : (insn : Insn) (len : ℕ) (t : Thread) → is_free insn t ≡ false
     → AllPlain t (plan insn len t)
 unfolding plan
 plan_plain (Alu op w dst src lock) len t n = alu_plain op w dst src len t
@@ -334,16 +363,90 @@ plan_plain (Bt w a bit) len t n = bt_plain w a bit len t
 plan_plain (Cmpxchg w dst r lock) len t n = cmpxchg_plain w dst r len t
 plan_plain (Xadd w dst r lock) len t n = xadd_plain w dst r len t
 plan_plain Syscall len t n = tt
-plan_plain Wrpkru len t n = absurd (n refl)
+plan_plain Wrpkru len t n = absurd cc
 plan_plain Rdpkru len t n = rdpkru_plain len t
-plan_plain (Xrstor m) len t n = tt
+plan_plain (Xrstor m) len t n = xrstor_plain m len t n
 plan_plain (Fence kind) len t n = moved_plain t _ _
 plan_plain Nop len t n = moved_plain t _ _
 
--- the thread with which such an instruction is done
-pub done_plain : (insn : Insn) (len : ℕ) (t new : Thread) (w : Option Write) (seen : Seen)
-    (bytes : ByteMap) (pkru rip : ℕ) → insn ≢ Wrpkru
-    → effect (plan insn len t) seen bytes pkru rip ≡ Done new w → Plain t new
-done_plain insn len t new w seen bytes pkru rip n h =
-    does_gives (λ x v. Plain t x) (plan insn len t) seen bytes pkru rip new w
-    (plan_plain insn len t n) h
+-- ---- all kinds
+
+-- an instruction that goes from t to new
+pub record Goes (insn : Insn) (len : ℕ) (t new : Thread) : Type 0 where
+  pub regs : length new.regs ≡ length t.regs
+  pub origin : new.origin ≡ t.origin
+  pub live : new.live ≡ t.live
+  pub pkru : is_free insn t ≡ false → new.pkru ≡ t.pkru
+  pub next : is_free insn t ≡ true → new.rip ≡ (t.rip + len) % 2 ^ 64
+  pub same : is_free insn t ≡ true → new.regs ≡ t.regs
+  pub value : insn ≡ Wrpkru → new.pkru ≡ eax t
+
+plain_goes : (insn : Insn) (len : ℕ) (t new : Thread) → is_free insn t ≡ false → insn ≢ Wrpkru
+    → Plain t new → Goes insn len t new
+plain_goes insn len t new f n p = record {
+  regs = p.regs;
+  origin = p.origin;
+  live = p.live;
+  pkru = λ _. p.pkru;
+  next = λ e. absurd (let k : false ≡ true = sym f ∙ e in cc);
+  same = λ e. absurd (let k : false ≡ true = sym f ∙ e in cc);
+  value = λ e. absurd (n e);
+}
+
+wrpkru_goes : (len : ℕ) (t : Thread) → AllGive (λ new w. Goes Wrpkru len t new) (plan Wrpkru len t)
+unfolding plan plan_wrpkru
+wrpkru_goes len t =
+    cond_all (λ new w. Goes Wrpkru len t new) (eqb (low_half (register t 1)) 0
+    && eqb (low_half (register t 2)) 0) _ Refuse
+    (record {
+      regs = refl;
+      origin = refl;
+      live = refl;
+      pkru = λ e. absurd cc;
+      next = λ _. refl;
+      same = λ _. refl;
+      value = λ _. refl;
+    }) tt
+
+-- it is asked for PKRU
+restored_goes : (m : Mem) (len : ℕ) (t : Thread) (pkru : ℕ) → has_bit (eax t) pkru_bit ≡ true
+    → Goes (Xrstor m) len t (let n = onward len t in record n { pkru = pkru })
+restored_goes m len t pkru f = record {
+  regs = refl;
+  origin = refl;
+  live = refl;
+  pkru = λ e. absurd (let k : false ≡ true = sym e ∙ f in cc);
+  next = λ _. refl;
+  same = λ _. refl;
+  value = λ e. absurd cc;
+}
+
+xrstor_goes : (m : Mem) (len : ℕ) (t : Thread) → has_bit (eax t) pkru_bit ≡ true
+    → AllGive (λ new w. Goes (Xrstor m) len t new) (plan (Xrstor m) len t)
+unfolding plan
+xrstor_goes m len t f =
+    xrstor_all (λ new w. Goes (Xrstor m) len t new) m len t (λ header.
+    rw f (cond_all (λ new w. Goes (Xrstor m) len t new)
+    (has_bit (slice_index header 0) pkru_bit) _ _ (λ x. restored_goes m len t x f)
+    (restored_goes m len t 0 f)))
+
+-- the thread with which an instruction is done
+pub done_goes : (insn : Insn) (len : ℕ) (t new : Thread) (w : Option Write) (seen : Seen)
+    (bytes : ByteMap) (pkru rip : ℕ) → effect (plan insn len t) seen bytes pkru rip ≡ Done new w
+    → Goes insn len t new
+done_goes Wrpkru len t new w seen bytes pkru rip h =
+    does_gives (λ x v. Goes Wrpkru len t x) (plan Wrpkru len t) seen bytes pkru rip new w
+    (wrpkru_goes len t) h
+done_goes (Xrstor m) len t new w seen bytes pkru rip h =
+    elim (cases_Bool (has_bit (eax t) pkru_bit)) [
+      | inl asked ↦ does_gives (λ x v. Goes (Xrstor m) len t x) (plan (Xrstor m) len t) seen bytes pkru
+          rip
+          new w (xrstor_goes m len t asked) h
+      | inr not ↦ plain_goes (Xrstor m) len t new not (λ e. absurd cc)
+          (does_gives (λ x v. Plain t x) (plan (Xrstor m) len t) seen bytes pkru rip new w
+          (plan_plain (Xrstor m) len t not) h)
+    ]
+done_goes insn len t new w seen bytes pkru rip h =
+    plain_goes insn len t new refl (λ e. absurd cc)
+    (does_gives (λ x v. Plain t x) (plan insn len t) seen bytes pkru rip new w
+    (plan_plain insn len t refl) h)

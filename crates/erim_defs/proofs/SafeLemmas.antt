@@ -5,7 +5,7 @@ use Rattle.std.proofs.Math.Seq.{drop-cons}
 use Rattle.std.proofs.Math.ListN.{drop_of_length-le}
 use Rattle.erim_defs.specs.Inspection.Code.{Code, allows}
 use Rattle.erim_defs.specs.declared.found.SeqKind.{SeqKind}
-use Rattle.erim_defs.specs.declared.found.SeqKind.TheVariants.{Wrpkru}
+use Rattle.erim_defs.specs.declared.found.SeqKind.TheVariants.{Wrpkru, Xrstor}
 use Rattle.erim_defs.specs.declared.found.Found.{Found}
 use Rattle.erim_defs.specs.Inspection.Safe.{fits, opens_gate, is_safe}
 use Rattle.erim_defs.proofs.OccurrenceLemmas.{Agrees}
@@ -33,6 +33,7 @@ pub length-check_of : (trust : TrustValue) (kind : SeqKind) (next : ℕ)
     → length (check_of trust kind next) ≤ 14
 unfolding check_of
 length-check_of trust Wrpkru next = lit≤ tt
+length-check_of trust Xrstor next = lit≤ tt
 
 -- an entry behind an occurrence makes it safe
 pub safe_by_gate : (trust : TrustValue) (c : Code) (o : Found) (next : ℕ) → next ≡ o.at + o.len

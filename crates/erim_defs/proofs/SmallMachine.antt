@@ -22,6 +22,7 @@ use Rattle.erim_defs.specs.Machine.Meaning.{plan_movzx, plan_cmov, plan_set, pla
 use Rattle.erim_defs.specs.Machine.Meaning.{plan_spread, plan_push, plan_pop, plan_leave, plan_jcc}
 use Rattle.erim_defs.specs.Machine.Meaning.{plan_call, plan_jmp_to, plan_call_to, plan_ret}
 use Rattle.erim_defs.specs.Machine.Meaning.{plan_xadd, plan_cmpxchg, plan_wrpkru, plan_rdpkru, plan}
+use Rattle.erim_defs.specs.Machine.Meaning.{plan_xrstor, on_numbers}
 use Rattle.erim_defs.specs.Inspection.Image.{number_at, headers_from, headers, loadable_segments}
 use Rattle.erim_defs.specs.Inspection.Image.{notes_between, notes}
 use Rattle.erim_defs.specs.Inspection.Image.{records_from, records_in, image_trust, image_data}
@@ -192,7 +193,8 @@ unfolding step fetch ones small_image row_at modrm_follows sooner_stop operand_l
     plan_alu plan_test plan_unary plan_shift plan_imul plan_bt plan_mov plan_xchg plan_lea
     plan_movsx plan_movzx plan_cmov plan_set plan_widen plan_spread plan_push plan_pop plan_leave
     plan_jcc
-    plan_call plan_jmp_to plan_call_to plan_ret plan_xadd plan_cmpxchg plan_wrpkru plan_rdpkru plan
+    plan_call plan_jmp_to plan_call_to plan_ret plan_xadd plan_cmpxchg plan_wrpkru plan_rdpkru
+    plan_xrstor on_numbers plan
     write_result call_result
 step_by t s = step t s
 

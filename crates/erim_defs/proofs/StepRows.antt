@@ -176,12 +176,6 @@ undefined_byte : let s = state_of first (0x06 ∷ []) in step_by 0 s ≡ Some (f
 unfolding step_by first
 undefined_byte = refl
 
--- xrstor [rax] isn't executed so far
-not_executed : let s = state_of first (0x0F ∷ 0xAE ∷ 0x28 ∷ []) in
-    step_by 0 s ≡ Some (faulted General s)
-unfolding step_by first
-not_executed = refl
-
 -- no page is mapped at RIP
 unmapped_page : let s = state_of (record first { rip = 0x500123 }) [] in
     step_by 0 s ≡ Some (ended_after (Fault 0 0x500123 Exec 0x500123) s)

@@ -71,9 +71,9 @@ unsafe_agrees trust c d a same = rw (← there) (by (occurrence_at c a) refl)
     by None is = refl
     by (Some o) is =
         let place : o.at ≡ a = occurrence_place c a o is in
-        let few : o.len ≤ 16 = occurrence_few c a o is in
+        let few = occurrence_few c a o is in
         let safe : is_safe trust c o ≡ is_safe trust d o =
-        safe_agrees trust c d o (λ b low high. same b (omega arith) (omega arith)) in
+        safe_agrees trust c d o (λ b low high. same b (omega arith) (omega (arith, few.few))) in
         rw safe refl
 
 -- what is found below an address is what is found below an earlier one, and what another function

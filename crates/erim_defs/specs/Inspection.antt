@@ -3,6 +3,7 @@ pub mod Code
 pub mod Occurrence
 pub mod Trust
 pub mod Check
+pub mod Gate
 pub mod Safe
 pub mod Unsafe
 pub mod Image

@@ -5,6 +5,8 @@
 pub enum SeqKind {
     /// WRPKRU, `0F 01 EF` (SDM volume 2).
     Wrpkru,
+    /// XRSTOR, `0F AE /5` with a memory operand (SDM volume 2).
+    Xrstor,
 }
 
 /// A sequence that writes PKRU, as it stands in code.

@@ -5,7 +5,6 @@ pub mod WriteLemmas
 pub mod CallLemmas
 pub mod LoadLemmas
 pub mod SegmentLemmas
-pub mod PublishLemmas
 pub mod LiveLemmas
 pub mod RefusedLemmas
 pub mod ProcessLemmas

@@ -1,6 +1,6 @@
 -- The thread that makes a step stays live.
 use Rattle.std.proofs.Common.{◌≡◌, ℕ, zero, suc, ◌-◌, ◌+◌, ◌/◌, ◌^◌, ◌&&◌, ◌++◌, Bool, true, false}
-use Rattle.std.proofs.Common.{cond, eqb, ltb, List, [], ◌∷◌, Option, Some, None, refl, sym, ap}
+use Rattle.std.proofs.Common.{cond, ltb, List, [], ◌∷◌, Option, Some, None, refl, sym, ap}
 use Rattle.std.proofs.Common.{subst, ◌∙◌, inl, inr}
 use Rattle.std.specs.Prelude.{is_none, slice_get, slice_set}
 use Rattle.std.proofs.lemmas.Bool.{cases_Bool}
@@ -9,17 +9,16 @@ use Rattle.erim_defs.specs.declared.machine.Thread.{Thread}
 use Rattle.erim_defs.specs.declared.machine.Access.TheVariants.{Fault, Missing}
 use Rattle.erim_defs.specs.declared.found.Found.{Found}
 use Rattle.erim_defs.specs.declared.insn.Insn.{Insn}
-use Rattle.erim_defs.specs.declared.insn.Insn.TheVariants.{Wrpkru}
 use Rattle.erim_defs.specs.declared.insn.FetchOutcome.{FetchOutcome}
 use Rattle.erim_defs.specs.declared.insn.FetchOutcome.TheVariants.{Runs, Need, Wrong}
 use Rattle.erim_defs.specs.Machine.Pages.{ByteMap, code_with, asks_exec}
 use Rattle.erim_defs.specs.Machine.Access.{Seen, whole}
 use Rattle.erim_defs.specs.Inspection.Image.{image_trust}
 use Rattle.erim_defs.specs.Inspection.Unsafe.{first_unsafe}
-use Rattle.erim_defs.specs.Machine.Plan.{Refuse, Effect, Done, Stopped, Called, Write, effect}
+use Rattle.erim_defs.specs.Machine.Plan.{Effect, Done, Stopped, Called, Write, effect}
 use Rattle.erim_defs.specs.Machine.Plan.{bytes_after_write}
-use Rattle.erim_defs.specs.Machine.Registers.{low_half, register, with_register}
-use Rattle.erim_defs.specs.Machine.Meaning.{plan, plan_wrpkru}
+use Rattle.erim_defs.specs.Machine.Registers.{with_register}
+use Rattle.erim_defs.specs.Machine.Meaning.{plan}
 use Rattle.erim_defs.specs.Machine.State.{State, any_live, code, with_origin, trust_of}
 use Rattle.erim_defs.specs.Machine.Calls.{Refusal, Answer, Quit, CallResult, call_result}
 use Rattle.erim_defs.specs.Machine.Step.{is_free, step, after_move, after_instruction, after_call}
@@ -27,7 +26,7 @@ use Rattle.erim_defs.specs.Machine.Step.{after_fetch, sequence_of, with_new_thre
 use Rattle.erim_defs.specs.Machine.Step.{with_change, behind_syscall, after_verdict}
 use Rattle.erim_defs.specs.Machine.Step.{after_exec_fault, ready_thread, after_step_of, if_live}
 use Rattle.erim_defs.specs.Machine.Step.{fetch, Runner}
-use Rattle.erim_defs.proofs.PlanLemmas.{AllGive, does_gives, cond_all, done_plain}
+use Rattle.erim_defs.proofs.PlanLemmas.{done_goes}
 
 -- ---- threads in a list
 
@@ -68,23 +67,12 @@ any_live_more (t ∷ ts) us h = elim (cases_Bool t.live) [
 
 -- ---- what instructions give
 
--- WRPKRU leaves its thread as live
-wrpkru_live : (len : ℕ) (t : Thread)
-    → AllGive (λ new w. new.live ≡ t.live) (plan Wrpkru len t)
-unfolding plan plan_wrpkru
-wrpkru_live len t =
-    cond_all (λ new w. new.live ≡ t.live) (eqb (low_half (register t 1)) 0
-    && eqb (low_half (register t 2)) 0) _ Refuse refl tt
-
 -- no instruction ends its thread
 done_live : (insn : Insn) (len : ℕ) (t new : Thread) (w : Option Write) (seen : Seen)
     (bytes : ByteMap) (pkru rip : ℕ) → effect (plan insn len t) seen bytes pkru rip ≡ Done new w
     → new.live ≡ t.live
-done_live Wrpkru len t new w seen bytes pkru rip h =
-    does_gives (λ x v. x.live ≡ t.live) (plan Wrpkru len t) seen bytes pkru rip new w
-    (wrpkru_live len t) h
 done_live insn len t new w seen bytes pkru rip h =
-    (done_plain insn len t new w seen bytes pkru rip (λ e. absurd cc) h).live
+    (done_goes insn len t new w seen bytes pkru rip h).live
 
 -- ---- what a step makes of the threads
 

@@ -1,20 +1,18 @@
 -- A thread that is settled after a step: what the definitions make of the state.
-use Rattle.std.proofs.Common.{◌≡◌, ℕ, Bool, Option, Some, None, refl, sym, ap, ◌∙◌}
+use Rattle.std.proofs.Common.{◌≡◌, Bool, refl, ap, ◌∙◌}
 use Rattle.erim_defs.specs.declared.machine.Thread.{Thread}
 use Rattle.erim_defs.specs.declared.machine.Access.TheVariants.{Fault, Missing}
 use Rattle.erim_defs.specs.Inspection.Trust.{TrustValue}
 use Rattle.erim_defs.specs.Machine.Pages.{ByteMap}
-use Rattle.erim_defs.specs.Machine.Plan.{Effect, Done, Stopped, Called, Write, bytes_after_write}
+use Rattle.erim_defs.specs.Machine.Plan.{Effect, Done, Stopped, Called, bytes_after_write}
 use Rattle.erim_defs.specs.Machine.Plan.{effect}
 use Rattle.erim_defs.specs.Machine.Meaning.{plan}
 use Rattle.erim_defs.specs.Machine.Access.{Seen, whole}
 use Rattle.erim_defs.specs.Inspection.Image.{image_trust}
 use Rattle.erim_defs.specs.Machine.State.{Setup, State, is_escape, trust_of, with_origin}
-use Rattle.erim_defs.specs.Machine.Step.{CodedInsn, Move, Runner, after_call, after_instruction}
-use Rattle.erim_defs.specs.Machine.Step.{after_move, behind_syscall, is_free, sequence_of, with_end}
-use Rattle.erim_defs.specs.Machine.Calls.{call_result}
+use Rattle.erim_defs.specs.Machine.Step.{CodedInsn, Move, Runner, after_instruction}
+use Rattle.erim_defs.specs.Machine.Step.{after_move, is_free, sequence_of}
 use Rattle.x86_step.specs.Execution.{bytes_after, exec_of, thread_after}
-use Rattle.x86_step.specs.declared.answer.Exec.{Exec}
 use Rattle.x86_step.specs.declared.answer.Exec.TheVariants as exec
 use Rattle.page_store.specs.Answers.{rights_in}
 use Rattle.page_store.specs.declared.memory.Memory.{Ghosts}

@@ -2,11 +2,12 @@
 use Rattle.std.proofs.Common.{Result, IsOk, is_ok, cond, get_or, length, vec_len, vec_capacity, ◌<◌}
 use Rattle.std.proofs.Common.{◌≤◌, true, zero, suc, ◌≡◌, ℕ, List, [], ◌∷◌, ◌++◌, Option, Some, refl}
 use Rattle.std.proofs.Common.{sym, ap, subst, ◌∙◌, arith, None, inl, inr, ◌^◌, ◌*◌, ◌+◌, ◌/◌, false}
-use Rattle.std.proofs.Common.{is_some}
 use Rattle.erim_defs.specs.declared.machine.Entry.{Entry}
 use Rattle.std.proofs.lemmas.Bool.{le-leb, cases_lt}
 use Rattle.erim_defs.specs.Output.Journal.{AreEntries, IsJournal, is_entry}
-use Rattle.erim_defs.specs.Machine.State.{Setup, State}
+use Rattle.erim_defs.specs.Machine.State.{Setup, State, code}
+use Rattle.erim_defs.specs.Inspection.Trust.{TrustValue}
+use Rattle.erim_defs.specs.Inspection.Image.{image_trust}
 use Rattle.erim_defs.specs.Machine.Step.{step}
 use Rattle.erim_defs.specs.Machine.Replay.{replay, replay_from, steps_of, then_}
 use Rattle.page_store.specs.declared.memory.Memory.{Ghosts}
@@ -15,11 +16,9 @@ use Rattle.erim_process.specs.declared.machine.Machine.{Machine}
 use Rattle.erim_process.specs.Machine.{machine_state}
 use Rattle.erim_process.specs.ProcessValue.{ProcessValue, state_of, IsRun}
 use Rattle.erim_process.specs.ProcessInvariant.{process_value, setup_of, IsReplay}
-use Rattle.erim_process.specs.StepFacts.{Publishes}
 use Rattle.erim_process.specs.declared.process.Process.TheInside.{Inside}
-use Rattle.erim_process.proofs.PublishLemmas.{publishes_always}
 use Rattle.erim_process.proofs.PushLemmas.{push_items}
-use Rattle.erim_defs.specs.Machine.Isolation.{AlwaysKept, IsKept, IsStartable}
+use Rattle.erim_defs.specs.Machine.Isolation.{AlwaysKept, IsKept, IsSafeCode, IsStartable}
 use Rattle.erim_defs.specs.declared.machine.Rights.{Rights}
 use Rattle.erim_defs.specs.Machine.Pages.{IsSound}
 use Rattle.std.specs.Prelude.{IfSome, IsSome}
@@ -75,11 +74,13 @@ get_or_any [] i d e h = absurd (omega arith)
 get_or_any (x ∷ xs) zero d e h = refl
 get_or_any (x ∷ xs) (suc i) d e h = get_or_any xs i d e (omega arith)
 
--- each page that asks to be executed can be published
-pub publishes_held : (g : Ghosts PageList) (p : Inside) → IsReplay g p
-    → Publishes (machine_state g (setup_of p.setup) p.machine)
-publishes_held g p h = publishes_always (setup_of p.setup) p.journal.items
-    (machine_state g (setup_of p.setup) p.machine) h.tame h.startable.accepted h.replayed
+-- its published code holds nothing unsafe
+pub safe_held : AlwaysKept → (g : Ghosts PageList) (p : Inside) (trust : TrustValue) → IsReplay g p
+    → trust ≡ image_trust (setup_of p.setup).image
+    → IsSafeCode trust (code (machine_state g (setup_of p.setup) p.machine))
+safe_held always g p trust h e =
+    rw e (always (setup_of p.setup) p.journal.items (machine_state g (setup_of p.setup) p.machine)
+    h.startable h.replayed).safe
 
 -- where steps are left there is room for an entry
 pub has_room : (g : Ghosts PageList) (p : Inside) → IsReplay g p → p.machine.steps < p.setup.budget

@@ -5,7 +5,7 @@ use Rattle.std.proofs.Math.Nat.{pow-suc, div-eq_of_lt}
 use Rattle.std.proofs.Math.Path.{fun_ext}
 use Rattle.erim_defs.specs.Bits.{has_bit}
 use Rattle.std.proofs.Common.{◌≡◌, ◌≤◌, ◌<◌, ◌*◌, ◌^◌, ◌/◌, zero, suc, arith, ℕ, ltb, ltb-false}
-use Rattle.std.proofs.Common.{◌||◌, Bool, true, false, is_some, List, [], ◌∷◌, Option, Some, None}
+use Rattle.std.proofs.Common.{Bool, true, false, List, [], ◌∷◌, Option, Some, None}
 use Rattle.std.proofs.Common.{ap, sym, subst, ◌∙◌, refl}
 use Rattle.erim_defs.specs.declared.found.Found.{Found}
 use Rattle.erim_defs.specs.declared.machine.Thread.{Thread}
@@ -18,9 +18,7 @@ use Rattle.erim_defs.specs.Machine.Replay.{replay}
 use Rattle.erim_defs.specs.Machine.Start.{first_state, first_rights, first_thread, image_byte}
 use Rattle.erim_defs.specs.Machine.Start.{trusted_unsafe, frames_needed}
 use Rattle.erim_process.specs.declared.start_fault.StartFault.{StartFault}
-use Rattle.erim_process.specs.declared.start_fault.StartFault.TheVariants.{TooFewFrames, NotYet}
-use Rattle.erim_process.specs.StartFaults.{start_fault, start_if, if_trusted, is_wild}
-use Rattle.erim_process.specs.StepFacts.{IsTame}
+use Rattle.erim_process.specs.StartFaults.{start_fault, start_if, if_trusted}
 use Rattle.erim_defs.specs.Inspection.Unsafe.{IsFirstUnsafe, first_unsafe}
 use Rattle.erim_defs.specs.Inspection.Image.{text_of, image_code, image_trust, trusted_code}
 use Rattle.erim_defs.proofs.UnsafeLemmas.{first_is}
@@ -113,26 +111,7 @@ unfolding start_fault
 start_room setup h =
     let second = none_second (if_trusted (trusted_unsafe setup.image)) _ h in
     ltb-false setup.frames (frames_needed setup.image)
-    (if_none _ _ (none_first _ (start_if (is_wild setup) NotYet) second))
-
-none_is : {X : Type 0} (o : Option X) → is_some o ≡ false → o ≡ None
-none_is None h = refl
-none_is (Some x) h = absurd cc
-
-neither : (a b : Bool) → (a || b) ≡ false → (a ≡ false) × (b ≡ false)
-neither true b h = absurd cc
-neither false b h = (refl, h)
-
--- and the image is tame
-pub start_tame : (setup : Setup) → start_fault setup ≡ None → IsTame setup
-unfolding start_fault
-start_tame setup h =
-    let second = none_second (if_trusted (trusted_unsafe setup.image)) _ h in
-    let wild = if_none (is_wild setup) NotYet
-    (none_second (start_if (ltb setup.frames (frames_needed setup.image))
-    (TooFewFrames (frames_needed setup.image))) _ second) in
-    let both = neither _ _ wild in
-    record { safe = none_is _ both.0; sealed = both.1 }
+    (if_none _ _ second)
 
 -- its thread is live
 pub start_live : (setup : Setup) (s : State) → s ≡ first_state setup → any_live s.threads ≡ true

@@ -9,7 +9,6 @@ use Rattle.page_store.specs.declared.page_list.PageList.{PageList}
 use Rattle.erim_process.specs.Ends.{IfRefused}
 use Rattle.erim_process.specs.Machine.{machine_state, IsRoomy}
 use Rattle.erim_process.specs.ProcessValue.{ProcessValue}
-use Rattle.erim_process.specs.StepFacts.{IsTame}
 use Rattle.erim_process.specs.declared.setup.Setup.{Setup as Given}
 use Rattle.erim_process.specs.declared.process.Process.TheInside.{Inside}
 
@@ -29,7 +28,6 @@ pub record IsReplay (g : Ghosts PageList) (p : Inside) : Type 0 where
   pub room : p.setup.budget ≤ vec_capacity p.journal
   pub within : p.machine.steps ≤ p.setup.budget
   pub startable : IsStartable (setup_of p.setup)
-  pub tame : IsTame (setup_of p.setup)
   pub roomy : IsRoomy p.machine
   pub few : length p.machine.threads.items ≤ 16
   pub alive : IsNone p.machine.end → any_live p.machine.threads.items ≡ true

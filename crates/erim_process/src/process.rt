@@ -209,6 +209,7 @@ impl Process {
         ensures setup { self.new.setup ≡ self.old.setup }
         ensures run { IsRun self.new }
     {
+        always_kept();
         let budget = self.setup.budget;
         match self.machine.step(self.setup.image.trust(), budget, thread) {
             Stepped::Made => {

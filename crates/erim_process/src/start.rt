@@ -2,10 +2,8 @@
 
 ghost use Rattle.std.specs.Prelude.{◌≡◌, ◌≤◌, ◌⊎◌, ◌&&◌, [], Some, None, IfOk, MatchResult, IsTrue};
 ghost use Rattle.std.specs.Prelude.{true, length};
-ghost use Rattle.std.specs.List.{list_any};
 ghost use Rattle.erim_defs.specs.Encoding.Parts.{AreBytes};
 ghost use Rattle.erim_defs.specs.Inspection.Image.{IsAccepted, entry_point, image_trust};
-ghost use Rattle.erim_defs.specs.Inspection.Image.{is_writable, is_executable};
 ghost use Rattle.erim_defs.specs.Machine.State.{Setup as Given};
 ghost use Rattle.erim_defs.specs.Machine.Start.{first_thread, frames_needed, first_state};
 ghost use Rattle.erim_process.specs.Machine.{machine_state, IsRoomy};
@@ -19,22 +17,13 @@ use crate::start_fault::StartFault;
 use crate::write_call::OUTPUT_LIMIT;
 use erim_defs::page::STACK_START;
 use erim_defs::register::RSP;
-use erim_defs::{Flags, Keys, Segment, Thread, Trust};
+use erim_defs::{Flags, Keys, Thread, Trust};
 use image_code::ImageCode;
 use page_store::{Memory, PageList};
 use std::alloc::Global;
 
 /// How many threads there may be.
 const THREADS: usize = 16;
-
-/// Is a segment both writable and executable?
-fn has_open_segment(segments: &[Segment]) -> bool
-    ensures { result ≡ list_any (λ s. is_writable s && is_executable s) segments.now }
-{
-    segments
-        .iter()
-        .any(|segment| segment.is_writable() && segment.is_executable())
-}
 
 /// What keeps the image from starting.
 #[tactic(auto, unfolding(crate::specs::StartFaults::start_fault))]
@@ -51,10 +40,6 @@ pub(crate) fn check_start(alloc: Global, setup: &Setup) -> Result<(), StartFault
     let needed = setup.image.pages() + 16;
     if setup.frames < needed {
         return Err(StartFault::TooFewFrames { needed });
-    }
-    let found = code.next_unsafe(trust, 0);
-    if found.is_some() || has_open_segment(setup.image.segments()) {
-        return Err(StartFault::NotYet);
     }
     Ok(())
 }

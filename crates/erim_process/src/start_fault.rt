@@ -13,8 +13,6 @@ pub enum StartFault {
     TrustedUnsafe { found: Found },
     /// The image and its stack need more frames.
     TooFewFrames { needed: u32 },
-    /// Its code holds something unsafe, or a segment is both writable and executable.
-    NotYet,
     /// Memory gave out.
     Memory,
 }

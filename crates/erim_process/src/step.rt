@@ -1,18 +1,23 @@
 //! One step of a thread.
 
-ghost use Rattle.std.specs.Prelude.{◌≡◌, ◌≢◌, ◌<◌, ◌+◌, ◌/◌, ℕ, length, None, Some};
+ghost use Rattle.std.specs.Prelude.{◌≡◌, ◌≢◌, ◌<◌, ◌+◌, ◌/◌, ◌^◌, ℕ, length, None, Some};
 ghost use Rattle.erim_defs.specs.declared.machine.End.TheVariants.{Fault};
 ghost use Rattle.erim_defs.specs.declared.insn.FetchOutcome.TheVariants.{Runs};
 ghost use Rattle.erim_defs.specs.Machine.Access.{whole};
 ghost use Rattle.erim_defs.specs.Machine.Plan.{effect};
 ghost use Rattle.erim_defs.specs.Machine.Meaning.{plan};
 ghost use Rattle.erim_defs.specs.Inspection.Image.{image_trust};
-ghost use Rattle.erim_defs.specs.Machine.State.{Setup, code};
+ghost use Rattle.erim_defs.specs.declared.machine.Rights.{Rights};
+ghost use Rattle.erim_defs.specs.declared.machine.Thread.{Thread};
+ghost use Rattle.erim_defs.specs.Inspection.Unsafe.{first_unsafe};
+ghost use Rattle.erim_defs.specs.Machine.Isolation.{IsSafeCode};
+ghost use Rattle.erim_defs.specs.Machine.Pages.{code_with, published_code};
+ghost use Rattle.erim_defs.specs.Machine.State.{Setup, code, trust_of};
 ghost use Rattle.erim_defs.specs.Machine.Step.{step, after_fetch, after_instruction};
-ghost use Rattle.erim_defs.specs.Machine.Step.{after_exec_fault, fetch};
+ghost use Rattle.erim_defs.specs.Machine.Step.{after_exec_fault, after_verdict, fetch};
 ghost use Rattle.page_store.specs.Answers.{rights_in};
 ghost use Rattle.erim_process.specs.Machine.{Becomes, machine_state, IsBounded, IsRoomy};
-ghost use Rattle.erim_process.specs.StepFacts.{Publishes, answer};
+ghost use Rattle.erim_process.specs.StepFacts.{answer};
 
 use crate::calls::behind_syscall;
 use crate::fetch::fetch;
@@ -20,6 +25,7 @@ use crate::machine::Machine;
 use crate::stepped::Stepped;
 use erim_defs::page::USER_END_PAGE;
 use erim_defs::{Cause, End, FetchOutcome, Insn, Thread, Trust};
+use exec_fault::{Verdict, publish, verdict};
 use page_store::{Memory, Pages};
 use x86_step::{Exec, exec};
 
@@ -37,11 +43,12 @@ impl<P: Pages> Machine<P> {
     }
 
     /// The thread wants to execute at an address that isn't published.
-    fn exec_fault(&mut self, t: u8, thread: &Thread, addr: u64)
-        ensures state { (setup : Setup) → Publishes (machine_state P.Memory setup self.old)
-            → machine_state P.Memory setup self.new
-            ≡ after_exec_fault (rights_in (P.seen self.old.pages) (addr / 4096)) addr
-            (record { number = t; thread = thread.now }) (machine_state P.Memory setup self.old) }
+    fn exec_fault(&mut self, trust: &Trust, t: u8, thread: &Thread, addr: u64)
+        requires safe { IsSafeCode trust.now
+            (published_code (rights_in (P.seen self.old.pages)) (P.bytes self.old.pages)) }
+        ensures state { Becomes P.Memory trust.now self.old self.new
+            (λ s. after_exec_fault (s.rights (addr / 4096)) addr
+            (record { number = t; thread = thread.now }) s) }
         ensures steps { self.new.steps ≡ self.old.steps }
         ensures roomy { IsRoomy self.old → IsRoomy self.new }
         ensures count { length self.new.threads.items ≡ length self.old.threads.items }
@@ -49,9 +56,35 @@ impl<P: Pages> Machine<P> {
         let page = addr / 4096;
         match self.pages.rights(page) {
             Some(rights) if rights.asks_exec() && page < USER_END_PAGE => {
-                self.pages.set_rights(page, rights.published());
+                self.judge(trust, t, page);
             }
             _ => self.fail(t, thread.rip, Cause::Exec, addr),
+        }
+    }
+
+    /// Publishes the page, or ends the process for what is unsafe with it.
+    fn judge(&mut self, trust: &Trust, t: u8, page: u64)
+        requires low { page < 2 ^ 35 }
+        requires safe { IsSafeCode trust.now
+            (published_code (rights_in (P.seen self.old.pages)) (P.bytes self.old.pages)) }
+        ensures state { (thread : Thread) (rights : Rights)
+            → rights_in (P.seen self.old.pages) page ≡ Some rights
+            → Becomes P.Memory trust.now self.old self.new (λ s. after_verdict
+            (first_unsafe (trust_of s) (code_with s.rights s.bytes page)) page rights
+            (record { number = t; thread = thread }) s) }
+        ensures steps { self.new.steps ≡ self.old.steps }
+        ensures roomy { IsRoomy self.old → IsRoomy self.new }
+        ensures count { length self.new.threads.items ≡ length self.old.threads.items }
+    {
+        match verdict(&self.pages, page, trust) {
+            Verdict::Publish => publish(&mut self.pages, page),
+            Verdict::Refuse { found } => {
+                self.end = Some(End::Refused {
+                    page,
+                    found,
+                    thread: t,
+                });
+            }
         }
     }
 
@@ -83,18 +116,18 @@ impl<P: Pages> Machine<P> {
     fn make(&mut self, trust: &Trust, t: u8, thread: &Thread)
         requires there { t < length self.old.threads.items }
         requires roomy { IsRoomy self.old }
-        ensures state { (setup : Setup) → image_trust setup.image ≡ trust.now
-            → Publishes (machine_state P.Memory setup self.old)
-            → machine_state P.Memory setup self.new
-            ≡ after_fetch (fetch (code (machine_state P.Memory setup self.old)) thread.now.rip)
-            (record { number = t; thread = thread.now }) (machine_state P.Memory setup self.old) }
+        requires safe { IsSafeCode trust.now
+            (published_code (rights_in (P.seen self.old.pages)) (P.bytes self.old.pages)) }
+        ensures state { Becomes P.Memory trust.now self.old self.new
+            (λ s. after_fetch (fetch (code s) thread.now.rip)
+            (record { number = t; thread = thread.now }) s) }
         ensures steps { self.new.steps ≡ self.old.steps }
         ensures roomy { IsRoomy self.new }
         ensures count { length self.new.threads.items ≡ length self.old.threads.items }
     {
         match fetch(&mut self.pages, thread.rip) {
             FetchOutcome::Runs { insn, len, skip } => self.run(trust, t, thread, &insn, len, skip),
-            FetchOutcome::Need { addr } => self.exec_fault(t, thread, addr),
+            FetchOutcome::Need { addr } => self.exec_fault(trust, t, thread, addr),
             FetchOutcome::Wrong => self.fail(t, thread.rip, Cause::Undefined, thread.rip),
         }
     }
@@ -103,10 +136,11 @@ impl<P: Pages> Machine<P> {
     #[tactic(auto, unfolding(erim_defs::specs::Machine::Step::step))]
     pub(crate) fn step(&mut self, trust: &Trust, budget: u32, t: u8) -> Stepped
         requires roomy { IsRoomy self.old }
+        requires safe { IsSafeCode trust.now
+            (published_code (rights_in (P.seen self.old.pages)) (P.bytes self.old.pages)) }
         ensures answer { (setup : Setup) → setup.budget ≡ budget
             → result ≡ answer (machine_state P.Memory setup self.old) t }
         ensures made { (setup : Setup) → setup.budget ≡ budget → image_trust setup.image ≡ trust.now
-            → Publishes (machine_state P.Memory setup self.old)
             → result ≡ Stepped.Made → step t (machine_state P.Memory setup self.old)
             ≡ Some (machine_state P.Memory setup self.new) }
         ensures there { result ≡ Stepped.Made → t < length self.old.threads.items }

@@ -8,26 +8,36 @@ use image_gen::{Mark, Part, lay_image};
 use std::alloc::Global;
 use std::process::Abort;
 
-/// A segment: `ADDRESS FLAGS PAGES PLACE BYTES`. The flags are readable 4, writable 2 and executable
-/// 1. In memory it has so many pages; in the file zeros up to a place, and then the bytes.
+/// What a page begins with: `PLACE BYTES`, for one place after the other, with `+` between them.
+/// Zeros stand up to each place.
+fn page_bytes(rt: &impl Abort, alloc: Global, stretches: &str) -> Vec<u8>
+    ensures { length result.items ≤ 4096 }
+{
+    let mut bytes = Vec::new(alloc);
+    for stretch in stretches.split('+') {
+        let (place, digits) = word(rt, stretch.trim());
+        bytes
+            .resize(number(rt, place) as usize, 0)
+            .expect(rt, stretch);
+        let tail = bytes_of(rt, alloc, digits);
+        bytes.extend_from_slice(&tail).expect(rt, stretch);
+    }
+    bytes.truncate(4096);
+    bytes
+}
+
+/// A segment: `ADDRESS FLAGS PAGES STRETCHES`. The flags are readable 4, writable 2 and executable
+/// 1. In memory it has so many pages, in the file the stretches.
 fn part(rt: &impl Abort, alloc: Global, segment: &str) -> Part
     ensures { length result.bytes.items ≤ 4096 }
 {
     let (address, rest) = word(rt, segment);
     let (flags, rest) = word(rt, rest);
-    let (pages, rest) = word(rt, rest);
-    let (place, digits) = word(rt, rest);
-    let mut bytes = Vec::new(alloc);
-    bytes
-        .resize(number(rt, place) as usize, 0)
-        .expect(rt, segment);
-    let tail = bytes_of(rt, alloc, digits);
-    bytes.extend_from_slice(&tail).expect(rt, segment);
-    bytes.truncate(4096);
+    let (pages, stretches) = word(rt, rest);
     Part {
         vaddr: number(rt, address),
         flags: u32::try_from(number(rt, flags)).expect(rt, segment),
-        bytes,
+        bytes: page_bytes(rt, alloc, stretches),
         memsz: number(rt, pages).saturating_mul(4096),
     }
 }

@@ -2,17 +2,22 @@
 //! clause says.
 //!
 //! They stand in a crate of their own, since a crate with tests is proved twice. `files`, `images` and
-//! `instructions` call libraries; `delivering`, `early_faults`, `inspecting`, `printing`
-//! and `running` call `erim_plain` (`calling`). Rows are text (`rows`), also those that images are
-//! laid out from (`laying`). Each call that allocates is made at least once where it succeeds.
+//! `instructions` call libraries; `attacks`, `delivering`, `early_faults`, `edges`, `inspecting`,
+//! `printing` and `running` call `erim_plain` (`calling`). Rows are text (`rows`), also those that
+//! images are laid out from (`laying`). Each call that allocates is made at least once where it
+//! succeeds.
 #![tactic(auto)]
 
+#[cfg(test)]
+mod attacks;
 #[cfg(test)]
 mod calling;
 #[cfg(test)]
 mod delivering;
 #[cfg(test)]
 mod early_faults;
+#[cfg(test)]
+mod edges;
 #[cfg(test)]
 mod files;
 #[cfg(test)]

@@ -37,17 +37,6 @@ pub fn number(rt: &impl Abort, digits: &str) -> u64 {
     u64::from_str_radix(digits, 16).expect(rt, digits)
 }
 
-/// The numbers in hexadecimal digits; none for `-`.
-pub fn numbers(rt: &impl Abort, alloc: Global, digits: &str) -> Vec<u64> {
-    let mut numbers = Vec::new(alloc);
-    for word in digits.split_whitespace() {
-        if word != "-" {
-            numbers.push(number(rt, word)).expect(rt, "memory");
-        }
-    }
-    numbers
-}
-
 /// The lines of a text, which has `/` for the end of each and may have an end of its own behind it.
 pub fn lines(rt: &impl Abort, alloc: Global, text: &str) -> String {
     let mut lines = String::new(alloc);

@@ -69,12 +69,18 @@ an entry one byte early
 1,009 pages and the stack's 16
 | 401000 5 3f1 0 90 | - | 401000 3 -
 | erim: image needs 1025 frames/;
-a hidden sequence
-| 401000 5 1 0 b80f01ef00 | - | 401000 3 -
-| erim: image not yet/;
-writable code
-| 401000 7 1 0 90 | - | 401000 3 -
-| erim: image not yet/";
+writable code, that stores into itself
+| 401000 7 1 0 c604250011400001 | - | 401000 1 2
+| output 0//steps 2/end fault write thread 0 rip 0x000000401000 at 0x000000401100/
+escape none/thread 0 steps 2 pkru 0x55555554/worker 0 steps 2/;
+xrstor [rsp - 0x1ff0] that keeps PKRU, and its check on the next page
+| 401000 5 1 ff8 0faeac2410e0ffff, 402000 5 1 0 0fbae0097307b8e70000000f05 bf00000000b8e70000000f05
+| - | 401ff8 0 8
+| output 0//steps 8/end exit 0/escape none/thread 0 steps 8 pkru 0x55555554/worker 0 steps 8/;
+mov eax, 0x200 before it: PKRU is 0, and the check ends the program
+| 401000 5 1 ff3 b8000200000faeac2410e0ffff,
+402000 5 1 0 0fbae0097307b8e70000000f05 bf00000000b8e70000000f05 | - | 401ff3 0 8
+| output 0//steps 8/end exit 0/escape none/thread 0 steps 8 pkru 0x00000000/worker 0 steps 8/";
 
 fn check_row(rt: &impl Abort, alloc: Global, row: &str) {
     let (_what, rest) = cell(rt, row);
@@ -112,9 +118,14 @@ fn check_journal<S: Store>(rt: &impl Abort, alloc: Global, held: &mut S, entries
     );
 }
 
+/// Runs the image of each row.
+pub fn check_rows(rt: &impl Abort, alloc: Global, rows: &str) {
+    for row in rows.split(";\n") {
+        check_row(rt, alloc, row);
+    }
+}
+
 #[test]
 fn runs(rt: HostRuntime) {
-    for row in ROWS.split(";\n") {
-        check_row(&rt, rt.alloc(), row);
-    }
+    check_rows(&rt, rt.alloc(), ROWS);
 }

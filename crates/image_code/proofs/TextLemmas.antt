@@ -1,25 +1,18 @@
 -- Trusted text: its ranges in a stretch, what a code has on it, and that it is made of whole pages.
-use Rattle.std.proofs.Common.{◌≡◌, ℕ, ◌+◌, ◌-◌, ◌*◌, ◌/◌, ◌%◌, ◌^◌, ◌≤◌, ◌<◌, ◌∙◌, ◌&&◌, List, []}
-use Rattle.std.proofs.Common.{◌∷◌, length, take, drop, get_or, Option, Some, None, Bool, true}
-use Rattle.std.proofs.Common.{false, cond, leb, ltb, eqb, refl, sym, ap, arith, inl, inr, eqb-true}
-use Rattle.std.specs.List.{All, list_any}
-use Rattle.std.proofs.lemmas.Bool.{cases_Bool, cases_lt, and_parts, both_ways, le-leb, lt-leb}
-use Rattle.std.proofs.lemmas.Bool.{lt-ltb, le-ltb, ltb-true}
+use Rattle.std.proofs.Common.{◌≡◌, ℕ, ◌+◌, ◌-◌, ◌*◌, ◌/◌, ◌≤◌, ◌<◌, ◌∙◌, ◌&&◌, List, []}
+use Rattle.std.proofs.Common.{length, take, drop, get_or, Option, Some, None, Bool, true}
+use Rattle.std.proofs.Common.{false, cond, ltb, refl, sym, ap, arith, inl, inr}
+use Rattle.std.specs.List.{All}
+use Rattle.std.proofs.lemmas.Bool.{cases_Bool, cases_lt, and_parts, both_ways}
+use Rattle.std.proofs.lemmas.Bool.{lt-ltb, ltb-true}
 use Rattle.std.proofs.lemmas.List.{get_or-take, get_or-drop, length-take, length-drop}
 use Rattle.std.proofs.lemmas.List.{get_or_default, take_more}
 use Rattle.std.proofs.lemmas.Option.{slice_get-get_or}
-use Rattle.erim_defs.specs.declared.trust.Span.{Span}
 use Rattle.erim_defs.specs.Inspection.Code.{Code, laid_at, or_else}
-use Rattle.erim_defs.specs.Inspection.Image.{IsAccepted, Record, header_fault, image_code}
-use Rattle.erim_defs.specs.Inspection.Image.{image_trust, is_entry_record, is_range, is_record}
-use Rattle.erim_defs.specs.Inspection.Image.{is_text, is_whole_range, later_fault, note_fault}
-use Rattle.erim_defs.specs.Inspection.Image.{headers, record_fault, records, segment_fault, span_of}
-use Rattle.erim_defs.specs.Inspection.Image.{spans_of, trust_fault, trusted_code, version_fault}
+use Rattle.erim_defs.specs.Inspection.Image.{IsAccepted}
+use Rattle.erim_defs.specs.Inspection.Image.{image_trust}
 use Rattle.erim_defs.specs.Inspection.Image.{text_of}
-use Rattle.erim_defs.specs.Machine.Start.{trusted_unsafe}
-use Rattle.erim_defs.specs.Inspection.Unsafe.{first_unsafe}
-use Rattle.erim_defs.specs.declared.found.Found.{Found}
-use Rattle.erim_defs.specs.Inspection.Trust.{TrustValue, in_text_of, spans}
+use Rattle.erim_defs.specs.Inspection.Trust.{TrustValue, in_text_of}
 use Rattle.erim_defs.proofs.CodeLemmas.{laid_at_before, laid_at_past, laid_at_place}
 use Rattle.image_code.specs.declared.ranges.PageRange.{PageRange}
 use Rattle.image_code.specs.declared.stretch.Stretch.{Stretch}

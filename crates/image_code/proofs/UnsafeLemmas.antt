@@ -1,74 +1,29 @@
--- The first unsafe sequence, by a scan.
-use Rattle.std.proofs.Common.{◌≡◌, ℕ, suc, zero, ◌+◌, ◌-◌, ◌≤◌, ◌<◌, ◌^◌, ◌∙◌, ◌++◌, List, [], ◌∷◌}
-use Rattle.std.proofs.Common.{Option, Some, None, true, false, refl, sym, arith, inl, inr}
+-- The first unsafe sequence from an address on, by a scan of a stretch from a place on.
+use Rattle.std.proofs.Common.{ℕ, ◌+◌, ◌-◌, List, Option, Some, None, arith, inl, inr}
 use Rattle.std.proofs.lemmas.Bool.{cases_lt}
 use Rattle.erim_defs.specs.declared.found.Found.{Found}
-use Rattle.erim_defs.specs.Inspection.Code.{Code, laid_at}
-use Rattle.erim_defs.specs.Inspection.Occurrence.{IsFirstFrom, occurrence_at}
-use Rattle.erim_defs.specs.Inspection.Safe.{is_safe, unsafe_at}
+use Rattle.erim_defs.specs.Inspection.Code.{laid_at}
 use Rattle.erim_defs.specs.Inspection.Trust.{TrustValue}
-use Rattle.erim_defs.specs.Inspection.Unsafe.{first_below, first_unsafe, list_below, top, top_is}
-use Rattle.erim_defs.specs.Inspection.Unsafe.{unsafe_list, NoneUnsafe, IsFirstUnsafe}
+use Rattle.erim_defs.specs.Inspection.Unsafe.{NoneUnsafe, IsFirstUnsafe}
 use Rattle.erim_defs.proofs.CodeLemmas.{laid_at_before}
 use Rattle.erim_defs.proofs.OccurrenceLemmas.{occurrence_absent}
-use Rattle.erim_defs.proofs.UnsafeLemmas.{list_below_gap, list_below_next, unsafe_absent}
+use Rattle.erim_defs.proofs.UnsafeLemmas.{unsafe_absent}
 
--- ---- a scan of a stretch
-
-unsafe_there : (trust : TrustValue) (c : Code) (o : Found) → occurrence_at c o.at ≡ Some o
-    → is_safe trust c o ≡ false → unsafe_at trust c o.at ≡ Some o
-unfolding unsafe_at
-unsafe_there trust c o there other = rw there (rw other refl)
-
-safe_there : (trust : TrustValue) (c : Code) (o : Found) → occurrence_at c o.at ≡ Some o
-    → is_safe trust c o ≡ true → unsafe_at trust c o.at ≡ None
-unfolding unsafe_at
-safe_there trust c o there safe = rw there (rw safe refl)
-
--- up to the place at which a scan begins nothing is unsafe
-pub scan_begins : (trust : TrustValue) (base low : ℕ) (bytes : List ℕ)
-    → NoneUnsafe trust (laid_at base bytes) low (base + (low - base))
-scan_begins trust base low bytes a l h =
-    unsafe_absent trust (laid_at base bytes) a
-    (occurrence_absent (laid_at base bytes) a (laid_at_before base a bytes (omega arith)))
-
--- before the next sequence nothing is unsafe
-scan_before : (trust : TrustValue) (c : Code) (low from : ℕ) (o : Found)
-    → NoneUnsafe trust c low from → IsFirstFrom c from (Some o) → NoneUnsafe trust c low o.at
-scan_before trust c low from o so_far is a l h = elim (cases_lt a from) [
-  | inl before ↦ so_far a l before
-  | inr past ↦ unsafe_absent trust c a (is.2 a past h)
+-- what comes before the place at which a scan begins has nothing unsafe
+begins : (trust : TrustValue) (base low high : ℕ) (bytes : List ℕ)
+    → NoneUnsafe trust (laid_at base bytes) (base + (low - base)) high
+    → NoneUnsafe trust (laid_at base bytes) low high
+begins trust base low high bytes none a l h = elim (cases_lt a base) [
+  | inl before ↦
+      unsafe_absent trust (laid_at base bytes) a
+      (occurrence_absent (laid_at base bytes) a (laid_at_before base a bytes before))
+  | inr past ↦ none a (omega arith) h
 ]
 
--- nor up to it where it is safe
-pub scan_passes : (trust : TrustValue) (c : Code) (base low place : ℕ) (o : Found) → base ≤ o.at
-    → NoneUnsafe trust c low (base + place) → IsFirstFrom c (base + place) (Some o)
-    → is_safe trust c o ≡ true → NoneUnsafe trust c low (base + (o.at - base + 1))
-scan_passes trust c base low place o inside so_far is safe a l h = elim (cases_lt a o.at) [
-  | inl before ↦ scan_before trust c low (base + place) o so_far is a l before
-  | inr past ↦
-      (let here : a ≡ o.at = omega arith in
-      rw here (safe_there trust c o is.1 safe))
-]
-
--- the scan stops at the first that isn't
-pub scan_stops : (trust : TrustValue) (c : Code) (base low place high : ℕ) (o : Found)
-    → low ≤ base + place → o.at < high → NoneUnsafe trust c low (base + place)
-    → IsFirstFrom c (base + place) (Some o) → is_safe trust c o ≡ false
-    → IsFirstUnsafe trust c low high (Some o)
-scan_stops trust c base low place high o ahead under so_far is other = (
-  omega (arith, ahead, is.0),
-  under,
-  unsafe_there trust c o is.1 other,
-  scan_before trust c low
-      (base + place) o so_far is,
-)
-
--- where no sequence is left nothing is unsafe
-pub scan_ends : (trust : TrustValue) (c : Code) (base low place high : ℕ)
-    → NoneUnsafe trust c low (base + place) → IsFirstFrom c (base + place) None
-    → NoneUnsafe trust c low high
-scan_ends trust c base low place high so_far none a l h = elim (cases_lt a (base + place)) [
-  | inl before ↦ so_far a l before
-  | inr past ↦ unsafe_absent trust c a (none a past)
-]
+-- so the scan finds the first from the address on
+pub first_from_place : (trust : TrustValue) (base low high : ℕ) (bytes : List ℕ)
+    (r : Option Found) → IsFirstUnsafe trust (laid_at base bytes) (base + (low - base)) high r
+    → IsFirstUnsafe trust (laid_at base bytes) low high r
+first_from_place trust base low high bytes None none = begins trust base low high bytes none
+first_from_place trust base low high bytes (Some o) is =
+    (omega (arith, is.0), is.1, is.2, begins trust base low o.at bytes is.3)

@@ -1,6 +1,6 @@
 -- Ranges of adjoining pages, and the bytes that a code has on them. Own.
 use Rattle.std.specs.Prelude.{◌≡◌, ℕ, ◌+◌, ◌*◌, ◌-◌, ◌^◌, ◌&&◌, nat_le, nat_lt, ◌<◌, ◌≤◌, Bool}
-use Rattle.std.specs.Prelude.{true, false, Option, Some, None, List, length, slice_index, IsTrue}
+use Rattle.std.specs.Prelude.{true, false, Option, Some, None, List, length, slice_index}
 use Rattle.std.specs.Prelude.{if◌then◌else◌}
 use Rattle.erim_defs.specs.declared.segment.Segment.{Segment}
 use Rattle.erim_defs.specs.Inspection.Code.{Code, laid_at}

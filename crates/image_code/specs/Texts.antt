@@ -1,6 +1,5 @@
 -- The part of a code on trusted text. Own.
-use Rattle.std.specs.Prelude.{◌≡◌, ℕ, ◌*◌, ◌/◌, ◌&&◌, nat_lt, Bool, None, if◌then◌else◌}
-use Rattle.erim_defs.specs.Inspection.Code.{Code}
+use Rattle.std.specs.Prelude.{◌≡◌, ℕ, ◌*◌, ◌/◌, ◌&&◌, nat_lt, Bool}
 use Rattle.erim_defs.specs.Inspection.Trust.{TrustValue, in_text_of}
 
 -- is the page trusted text

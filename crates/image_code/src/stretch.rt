@@ -5,7 +5,7 @@ ghost use Rattle.std.specs.Prelude.{◌≡◌, ◌+◌, ◌*◌, ◌%◌, ◌≤
 use crate::ranges::PageRange;
 use erim_defs::page::PAGE_SIZE;
 use erim_defs::{Found, NoMemory, Trust};
-use sequence_scan::{is_safe, next_sequence};
+use safe_occurrence::next_unsafe;
 use std::alloc::Global;
 
 /// The bytes of adjoining pages of user memory.
@@ -46,20 +46,12 @@ impl Stretch {
         Ok(Vec::from_slice(alloc, &self.bytes[start..end])?)
     }
 
-    /// The first sequence from an address on that is unsafe by the bytes of the stretch alone. Each
-    /// sequence before it is asked once.
+    /// The first sequence from an address on that is unsafe by the bytes of the stretch alone.
     pub fn next_unsafe(&self, trust: &Trust, from: u64) -> Option<Found>
         ensures { IsFirstUnsafe trust.now (stretch_code self.now) from (stretch_end self.now)
             result }
     {
-        let code = self.bytes.as_slice();
-        let mut place = from.saturating_sub(self.base) as usize;
-        'scan: while let Some(found) = next_sequence(code, self.base, place) {
-            if !is_safe(code, self.base, &found, trust) {
-                return Some(found);
-            }
-            place = (found.at - self.base) as usize + 1;
-        }
-        None
+        let place = from.saturating_sub(self.base) as usize;
+        next_unsafe(self.bytes.as_slice(), self.base, place, trust)
     }
 }

@@ -32,7 +32,7 @@ use Rattle.erim_defs.specs.Machine.Start.{image_asked, image_byte, is_keyed, is_
 use Rattle.erim_defs.specs.Machine.Start.{rights_at_start, asked_of, asked_in}
 use Rattle.erim_defs.specs.Machine.Replay.{then_, steps_of, replay_from, replay}
 use Rattle.erim_defs.specs.Machine.Isolation.{IsKept, IsRuled, IsStartable}
-use Rattle.isolation.proofs.SequenceLemmas.{unsafe_loses}
+use Rattle.erim_defs.proofs.LossLemmas.{unsafe_loses}
 use Rattle.erim_defs.proofs.AcceptedLemmas.{text_is, entries_in, image_low}
 use Rattle.isolation.proofs.DecoderFacts.{AllOf, Decoder}
 use Rattle.isolation.proofs.StandLemmas.{EntriesIn}
@@ -223,9 +223,9 @@ pub kept_loaded : (setup : Setup) → IsStartable setup → IsKept (first_state 
 unfolding first_state
 kept_loaded setup h = record {
   ruled = λ q r e. first_ruled setup q r h.accepted e;
-  safe = unsafe_loses (image_trust setup.image)
-      (published_code (first_rights setup) (image_byte setup.image)) (trusted_code setup.image)
-      (λ a. inl (first_code setup a h.accepted)) h.safe;
+  safe = λ x. unsafe_loses (image_trust setup.image)
+      (published_code (first_rights setup) (image_byte setup.image)) (trusted_code setup.image) x
+      (λ a. inl (first_code setup a h.accepted)) (h.safe x);
   text = λ q t. (let w = first_text setup q h.accepted t in
       record {
         held = published_rights (unpublished_rights w.0 0);

@@ -3,7 +3,7 @@ use Rattle.std.proofs.Common.{◌≡◌, ◌≢◌, ◌<◌, ◌+◌, ◌%◌, �
 use Rattle.std.proofs.Common.{length, Some, None, true, false, refl, sym, ap, ◌∙◌, arith, inl, inr}
 use Rattle.std.specs.Prelude.{slice_get, slice_set}
 use Rattle.erim_defs.specs.declared.found.SeqKind.{SeqKind}
-use Rattle.erim_defs.specs.declared.found.SeqKind.TheVariants.{Wrpkru}
+use Rattle.erim_defs.specs.declared.found.SeqKind.TheVariants.{Wrpkru, Xrstor}
 use Rattle.erim_defs.specs.declared.machine.Thread.{Thread}
 use Rattle.erim_defs.specs.declared.machine.End.TheVariants.{Exit}
 use Rattle.erim_defs.specs.declared.insn.Insn.{Insn}
@@ -21,7 +21,7 @@ use Rattle.erim_defs.specs.Machine.Step.{after_instruction, after_call, after_fe
 use Rattle.erim_defs.specs.Machine.Step.{behind_syscall, fetch}
 use Rattle.erim_defs.specs.Machine.Isolation.{IsInCheck, Stands, PositionFact}
 use Rattle.isolation.specs.Laws.{ChecksOn, Faults, GoesOn, Ends, ChecksLaw}
-use Rattle.isolation.proofs.SequenceLemmas.{occurrence_long, occurrence_there}
+use Rattle.erim_defs.proofs.OccurrenceLemmas.{occurrence_few, occurrence_there}
 use Rattle.isolation.proofs.CheckLemmas.{check_fetched}
 use Rattle.isolation.proofs.StandLemmas.{place_after, place_plan, place_moves, is_leave, leave_insn}
 use Rattle.isolation.proofs.StandLemmas.{low_at}
@@ -55,6 +55,10 @@ leave_fact trust Wrpkru next Leave t f e = f
 leave_fact trust Wrpkru next Compare t f e = absurd cc
 leave_fact trust Wrpkru next Branch t f e = absurd cc
 leave_fact trust Wrpkru next Number t f e = absurd cc
+leave_fact trust Xrstor next Leave t f e = f
+leave_fact trust Xrstor next Compare t f e = absurd cc
+leave_fact trust Xrstor next Branch t f e = absurd cc
+leave_fact trust Xrstor next Number t f e = absurd cc
 
 -- a step by an instruction that gives a thread without a write
 goes_on : (s new : State) (t : ℕ) (old : Thread)
@@ -83,11 +87,11 @@ goes_on s new t old w insn len is size g at n runs m =
     let moves = place_moves (trust_of s) w.origin.kind (w.origin.at + w.origin.len) w.position len
     old n in
     let to = moves.rip in
-    let three : w.origin.len ≡ 3 = (occurrence_long (code s) w.origin.at w.origin w.occurs).0 in
+    let long = occurrence_few (code s) w.origin.at w.origin w.occurs in
     let near : w.origin.at < 2 ^ 47 =
     low_at (code s) w.origin.at (kept_low s g.kept)
     (occurrence_there (code s) w.origin.at w.origin w.occurs w.origin.at (omega arith)
-    (omega (arith, three))) in
+    (omega (arith, long.many))) in
     let rip = w.rip in
     let sized = place_moves (trust_of s) w.origin.kind (w.origin.at + w.origin.len) w.position
     (length (check_bytes (trust_of s) w.origin.kind (w.origin.at + w.origin.len) w.position))
@@ -96,7 +100,7 @@ goes_on s new t old w insn len is size g at n runs m =
     GoesOn w len after n (runs
     ∙ ap (λ (i : Insn). Runs i len 0) is) (ap (λ (ts : List Thread). slice_get ts t)
     (sym threads) ∙ set_here s.threads t after old at) (omega
-    (arith, to, three, near, rip, short, size))
+    (arith, to, long.few, near, rip, short, size))
 
 -- a step by the call of the check
 ends : (s new : State) (t : ℕ) (old : Thread) (insn : Insn) (len : ℕ) → insn ≡ Syscall

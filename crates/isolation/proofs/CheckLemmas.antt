@@ -4,7 +4,7 @@ use Rattle.std.proofs.Common.{Option, Some, None, true, refl, ap, subst, ◌∙�
 use Rattle.std.proofs.Common.{eqb-true}
 use Rattle.std.proofs.lemmas.Bool.{and_parts, and_from}
 use Rattle.erim_defs.specs.declared.found.SeqKind.{SeqKind}
-use Rattle.erim_defs.specs.declared.found.SeqKind.TheVariants.{Wrpkru}
+use Rattle.erim_defs.specs.declared.found.SeqKind.TheVariants.{Wrpkru, Xrstor}
 use Rattle.erim_defs.specs.declared.machine.Thread.{Thread}
 use Rattle.erim_defs.specs.declared.insn.Insn.{Insn}
 use Rattle.erim_defs.specs.declared.insn.FetchOutcome.TheVariants.{Runs, Need}
@@ -92,6 +92,10 @@ cut trust Wrpkru next Compare = record { parts = refl; start = refl; short = ome
 cut trust Wrpkru next Branch = record { parts = refl; start = refl; short = omega arith }
 cut trust Wrpkru next Number = record { parts = refl; start = refl; short = omega arith }
 cut trust Wrpkru next Leave = record { parts = refl; start = refl; short = omega arith }
+cut trust Xrstor next Compare = record { parts = refl; start = refl; short = omega arith }
+cut trust Xrstor next Branch = record { parts = refl; start = refl; short = omega arith }
+cut trust Xrstor next Number = record { parts = refl; start = refl; short = omega arith }
+cut trust Xrstor next Leave = record { parts = refl; start = refl; short = omega arith }
 
 -- a thread in its check runs the next instruction of its check, or lacks a byte of it
 pub check_fetched : {N : ℕ → Type 0} → Decoder N → (trust : TrustValue) (c : Code) (t : Thread)

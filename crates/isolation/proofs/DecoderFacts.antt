@@ -1,11 +1,10 @@
 -- What the machine's proofs use of decoding, over lists whose elements are known to be of some
 -- kind, and how the laws of the grammar give it over bytes.
 use Rattle.std.proofs.Common.{◌≡◌, ◌<◌, ◌≤◌, ◌+◌, ℕ, List, [], ◌∷◌, ◌++◌, length, take, drop, refl}
-use Rattle.std.proofs.Common.{sym, ap, subst, ◌∙◌, arith, append_assoc}
+use Rattle.std.proofs.Common.{sym, ap, subst, ◌∙◌, arith, append_assoc, Some}
 use Rattle.std.proofs.lemmas.List.{take-append-drop, length-take-le, append-nil, length-append}
 use Rattle.erim_defs.specs.declared.found.SeqKind.{SeqKind}
 use Rattle.erim_defs.specs.declared.insn.Insn.{Insn}
-use Rattle.erim_defs.specs.declared.insn.Insn.TheVariants.{Wrpkru}
 use Rattle.erim_defs.specs.declared.insn.Decoded.{Decoded}
 use Rattle.erim_defs.specs.declared.insn.Decoded.TheVariants as answers
 use Rattle.erim_defs.specs.Encoding.Parts.{AreBytes}
@@ -13,6 +12,7 @@ use Rattle.erim_defs.specs.Encoding.Grammar.{Encodes}
 use Rattle.erim_defs.specs.Encoding.Decodes.{Decodes, PrefixFree}
 use Rattle.erim_defs.specs.Encoding.Decoding.{decode}
 use Rattle.isolation.specs.GrammarLaws.{GrammarLaws}
+use Rattle.erim_defs.proofs.SequenceEncodings.{Spells, insn_kind}
 use Rattle.erim_defs.specs.Inspection.Trust.{TrustValue}
 use Rattle.erim_defs.specs.Inspection.Check.{Position, check_insn, check_bytes}
 
@@ -32,20 +32,23 @@ pub record Reads (N : ℕ → Type 0) (text : List ℕ) (insn : Insn) : Type 0 w
   pub part : (front back : List ℕ) → text ≡ front ++ back → 0 < length back
       → decode front ≡ answers.Short
 
--- the bytes of a WRPKRU end with its occurrence, behind skip bytes
-pub record HoldsWrpkru (bytes : List ℕ) (len skip : ℕ) : Type 0 where
+-- the bytes of an instruction that writes PKRU end with its sequence, behind skip bytes
+pub record HoldsSequence (kind : SeqKind) (bytes : List ℕ) (len skip : ℕ) : Type 0 where
   pub front : List ℕ
+  pub text : List ℕ
   pub back : List ℕ
-  pub parts : bytes ≡ front ++ 0x0F ∷ 0x01 ∷ 0xEF ∷ back
+  pub parts : bytes ≡ front ++ (text ++ back)
+  pub spells : Spells kind text
   pub skipped : skip ≡ length front
-  pub long : len ≡ skip + 3
+  pub long : len ≡ skip + length text
 
 pub record Decoder (N : ℕ → Type 0) : Type 0 where
   pub bytes : (x : ℕ) → x < 256 → N x
   pub reads : (trust : TrustValue) (kind : SeqKind) (next : ℕ) (position : Position)
       → Reads N (check_bytes trust kind next position) (check_insn trust kind next position)
-  pub wrpkru : (bytes : List ℕ) (len skip : ℕ) → AllOf N bytes
-      → decode bytes ≡ answers.Insn Wrpkru len skip → HoldsWrpkru bytes len skip
+  pub sequence : (kind : SeqKind) (bytes : List ℕ) (insn : Insn) (len skip : ℕ)
+      → insn_kind insn ≡ Some kind → AllOf N bytes → decode bytes ≡ answers.Insn insn len skip
+      → HoldsSequence kind bytes len skip
 
 -- ---- over bytes, by the laws
 
@@ -117,20 +120,22 @@ reads_by g text insn s = record {
       (g.decodes front (bytes_front front back (subst AreBytes e s.format.fits)));
 }
 
-holds_by : GrammarLaws → (bytes : List ℕ) (len skip : ℕ)
-    → (len ≤ length bytes) × Encodes (take len bytes) Wrpkru skip → HoldsWrpkru bytes len skip
-holds_by g bytes len skip d =
-    let w = g.wrpkru (take len bytes) skip d.1 in
-    let long : len ≡ length w.front + 3 = sym (length-take-le len bytes d.0) ∙ ap length w.parts
-    ∙ length-append w.front (0x0F ∷ 0x01 ∷ 0xEF ∷ []) in
-    let skipped = w.skipped in
+holds_by : GrammarLaws → (kind : SeqKind) (bytes : List ℕ) (insn : Insn) (len skip : ℕ)
+    → insn_kind insn ≡ Some kind → (len ≤ length bytes) × Encodes (take len bytes) insn skip
+    → HoldsSequence kind bytes len skip
+holds_by g kind bytes insn len skip is d =
+    let w = g.sequence kind (take len bytes) skip insn is d.1 in
+    let long : len ≡ length w.front + length w.text =
+    sym (length-take-le len bytes d.0) ∙ ap length w.parts ∙ length-append w.front w.text in
     record {
       front = w.front;
+      text = w.text;
       back = drop len bytes;
       parts = sym (take-append-drop len bytes) ∙ ap (λ (x : List ℕ). x ++ drop len bytes) w.parts
-          ∙ append_assoc w.front (0x0F ∷ 0x01 ∷ 0xEF ∷ []) (drop len bytes);
+          ∙ append_assoc w.front w.text (drop len bytes);
+      spells = w.spells;
       skipped = w.skipped;
-      long = omega (arith, long, skipped);
+      long = omega (arith, long, w.skipped);
     }
 
 -- the laws of the grammar give what is used, over bytes
@@ -140,6 +145,7 @@ decoder_of_bytes g = record {
   reads = λ trust kind next position. reads_by g (check_bytes trust kind next position)
       (check_insn trust kind next position)
       (g.check trust kind next position);
-  wrpkru = λ bytes len skip all e. holds_by g bytes len skip (let P : Decoded
-      → Type 0 = Decodes bytes in subst P e (g.decodes bytes (are_bytes bytes all)));
+  sequence = λ kind bytes insn len skip is all e. holds_by g kind bytes insn len skip is
+      (let P : Decoded → Type 0 = Decodes bytes in
+      subst P e (g.decodes bytes (are_bytes bytes all)));
 }

@@ -2,18 +2,18 @@
 -- table of instructions.
 use Rattle.std.proofs.Common.{ℕ, List, [], ◌∷◌}
 use Rattle.erim_defs.specs.declared.found.SeqKind.{SeqKind}
-use Rattle.erim_defs.specs.declared.found.SeqKind.TheVariants.{Wrpkru}
-use Rattle.erim_defs.specs.declared.insn.Insn.TheVariants as insns
+use Rattle.erim_defs.specs.declared.found.SeqKind.TheVariants.{Wrpkru, Xrstor}
 use Rattle.erim_defs.specs.Encoding.Parts.{AreBytes}
 use Rattle.erim_defs.specs.Encoding.Grammar.{Encodes}
 use Rattle.erim_defs.specs.Machine.State.{Setup}
 use Rattle.erim_defs.specs.Machine.Isolation.{IsStartable}
-use Rattle.isolation.specs.GrammarLaws.{EndsInWrpkru, GrammarLaws}
+use Rattle.isolation.specs.GrammarLaws.{GrammarLaws}
 use Rattle.isolation.proofs.DecoderFacts.{AllOf, Decoder, decoder_of_bytes, IsByte}
 use Rattle.erim_defs.proofs.DecodeLemmas.{decode_is_exact}
 use Rattle.erim_defs.proofs.EncodingLemmas.{prefix_free}
-use Rattle.erim_defs.proofs.CheckEncodings.{encodes_cmp, encodes_je, encodes_mov, encodes_syscall}
-use Rattle.erim_defs.proofs.CheckEncodings.{wrpkru_encoding}
+use Rattle.erim_defs.proofs.CheckEncodings.{encodes_bt, encodes_cmp, encodes_jae, encodes_je}
+use Rattle.erim_defs.proofs.CheckEncodings.{encodes_mov, encodes_syscall}
+use Rattle.erim_defs.proofs.SequenceEncodings.{sequence_encoding}
 use Rattle.erim_defs.specs.Inspection.Trust.{TrustValue}
 use Rattle.erim_defs.specs.Inspection.Check.{Position, Compare, Branch, Number, Leave, check_insn}
 use Rattle.erim_defs.specs.Inspection.Check.{check_bytes}
@@ -26,18 +26,17 @@ check_spelled trust Wrpkru next Compare = encodes_cmp
 check_spelled trust Wrpkru next Branch = encodes_je
 check_spelled trust Wrpkru next Number = encodes_mov
 check_spelled trust Wrpkru next Leave = encodes_syscall
-
--- prefixes and REX may stand before 0F 01 EF
-ends_in : (text : List ℕ) (skip : ℕ) → Encodes text insns.Wrpkru skip → EndsInWrpkru text skip
-ends_in text skip s = let w = wrpkru_encoding text skip s in
-    record { front = w.front; parts = w.parts; skipped = w.skipped }
+check_spelled trust Xrstor next Compare = encodes_bt
+check_spelled trust Xrstor next Branch = encodes_jae
+check_spelled trust Xrstor next Number = encodes_mov
+check_spelled trust Xrstor next Leave = encodes_syscall
 
 pub grammar_laws : GrammarLaws
 grammar_laws = record {
   one = prefix_free;
   decodes = decode_is_exact;
   check = check_spelled;
-  wrpkru = ends_in;
+  sequence = sequence_encoding;
 }
 
 -- ---- what the proofs of runs go by

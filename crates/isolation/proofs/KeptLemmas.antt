@@ -1,5 +1,5 @@
 -- Each constructor of a step keeps the invariant.
-use Rattle.std.proofs.Common.{◌≡◌, ◌≢◌, ◌<◌, ◌≤◌, ◌+◌, ◌-◌, ◌*◌, ◌/◌, ◌%◌, ◌^◌, ℕ, List, length}
+use Rattle.std.proofs.Common.{is_some, ◌≡◌, ◌≢◌, ◌<◌, ◌≤◌, ◌+◌, ◌-◌, ◌*◌, ◌/◌, ◌%◌, ◌^◌, ℕ, List, length}
 use Rattle.std.proofs.Common.{Option, Some, None, Bool, true, false, cond, eqb, ltb, not, ◌&&◌}
 use Rattle.std.proofs.Common.{is_none, refl, sym, ap, subst, ◌∙◌, arith, inl, inr, eqb-true, ne_eqb}
 use Rattle.std.proofs.Common.{length-set, ltb-true, get_or-set_other}
@@ -34,12 +34,11 @@ use Rattle.erim_defs.specs.Machine.Step.{caller_after, with_change, behind_sysca
 use Rattle.erim_defs.specs.Machine.Step.{after_verdict, after_exec_fault, ready_thread}
 use Rattle.erim_defs.specs.Machine.Step.{after_step_of, if_live, fetch, Runner}
 use Rattle.erim_defs.specs.Machine.Isolation.{IsKept, IsRuled, KeepsText, Stands}
-use Rattle.erim_defs.proofs.LossLemmas.{Loses}
 use Rattle.erim_defs.proofs.WriteLemmas.{IsAllowed, does_allowed, sealed_same}
-use Rattle.isolation.proofs.SequenceLemmas.{is_there, unsafe_loses}
+use Rattle.erim_defs.proofs.LossLemmas.{Loses, unsafe_loses}
 use Rattle.isolation.proofs.DecoderFacts.{Decoder}
 use Rattle.isolation.proofs.ListLemmas.{OfCode}
-use Rattle.isolation.proofs.PlanLemmas.{done_goes}
+use Rattle.erim_defs.proofs.PlanLemmas.{done_goes}
 use Rattle.isolation.proofs.StandLemmas.{IsLow, EntriesIn, did_stands, called_stands, stands_in}
 use Rattle.isolation.proofs.ThreadLemmas.{stands_same, each_at, each_set, each_append, KeepsOrigins}
 use Rattle.isolation.proofs.ThreadLemmas.{each_kept, origins_same, each_grown, settled_origin}
@@ -89,8 +88,9 @@ pub kept_frame : (s : State) (rights : RightsMap) (bytes : ByteMap) (keys : ℕ
     → IsKept (record s { rights = rights; bytes = bytes; keys = keys; output = output })
 kept_frame s rights bytes keys output h ruled loses text two origins low zeros = record {
   ruled = ruled;
-  safe = unsafe_loses (image_trust s.setup.image) (published_code rights bytes) (code s) loses
-      h.safe;
+  safe = λ a. unsafe_loses (image_trust s.setup.image) (published_code rights bytes) (code s) a
+      loses
+      (h.safe a);
   text = text;
   keys = two;
   origins = h.origins;
@@ -248,7 +248,7 @@ put_code rights bytes q r x = elim (cases_Bool (eqb (x / 4096) q)) [
 ]
 
 put_grows : (rights : RightsMap) (bytes : ByteMap) (q : ℕ) (r : Rights) (x : ℕ)
-    → is_there (published_code rights bytes x) ≡ true
+    → is_some (published_code rights bytes x) ≡ true
     → published_code (with_value_at rights q (Some (published_rights r))) bytes x
     ≡ published_code rights bytes x
 put_grows rights bytes q r x h = elim (cases_Bool (is_published (rights (x / 4096)))) [
@@ -287,8 +287,8 @@ kept_judged None q r t s h m l a e =
             subst IsRuled z (published_ruled r (h.ruled q r m) a))
         | inr n ↦ h.ruled p x (rw n at k)
       ];
-      safe = unsafe_loses (image_trust s.setup.image) (published_code rights s.bytes)
-          (code_with s.rights s.bytes q) (λ x. inl (put_code s.rights s.bytes q r x)) safe;
+      safe = λ a. unsafe_loses (image_trust s.setup.image) (published_code rights s.bytes)
+          (code_with s.rights s.bytes q) a (λ x. inl (put_code s.rights s.bytes q r x)) (safe a);
       text = λ p y. (let k = h.text p y in elim (cases_Bool (eqb p q)) [
         | inr n ↦ record {
           held = k.held;

@@ -3,7 +3,6 @@ pub mod DecoderFacts
 pub mod GrammarFacts
 pub mod ListLemmas
 pub mod CheckLemmas
-pub mod PlanLemmas
 pub mod StandLemmas
 pub mod ThreadLemmas
 pub mod MemoryLemmas

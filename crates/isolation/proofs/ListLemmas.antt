@@ -1,16 +1,16 @@
--- From the bytes that are fetched to the code: what is decoded as WRPKRU is an occurrence.
+-- From the bytes that are fetched to the code: a WRPKRU or XRSTOR that is decoded occurs.
 use Rattle.std.proofs.Common.{◌≡◌, ◌≤◌, ◌+◌, ◌-◌, ℕ, zero, suc, List, [], ◌∷◌, ◌++◌, length, Option}
-use Rattle.std.proofs.Common.{Some, None, refl, sym, ap, subst, ◌∙◌, arith}
+use Rattle.std.proofs.Common.{Some, None, refl, ap, subst, ◌∙◌, arith}
 use Rattle.std.proofs.lemmas.List.{length-append}
-use Rattle.erim_defs.specs.declared.found.SeqKind.TheVariants.{Wrpkru as WrpkruKind}
+use Rattle.erim_defs.specs.declared.found.SeqKind.{SeqKind}
 use Rattle.erim_defs.specs.declared.found.Found.{Found}
-use Rattle.erim_defs.specs.declared.insn.Insn.TheVariants.{Wrpkru}
+use Rattle.erim_defs.specs.declared.insn.Insn.{Insn}
 use Rattle.erim_defs.specs.declared.insn.Decoded.TheVariants as answers
 use Rattle.erim_defs.specs.Inspection.Code.{Code}
 use Rattle.erim_defs.specs.Machine.Pages.{code_bytes, code_bytes_on}
 use Rattle.erim_defs.specs.Inspection.Occurrence.{occurrence_at}
 use Rattle.erim_defs.specs.Encoding.Decoding.{decode}
-use Rattle.isolation.proofs.SequenceLemmas.{occurrence_from}
+use Rattle.erim_defs.proofs.SequenceEncodings.{LiesAt, insn_kind}
 use Rattle.isolation.proofs.DecoderFacts.{AllOf, Decoder}
 
 -- each byte of a code is of the kind
@@ -79,40 +79,48 @@ present_drop c a (suc n) (x ∷ xs) ys h = by_byte (c a) h (λ e. present_drop c
         let e : suc a + length xs ≡ a + length (x ∷ xs) = omega arith in
         (r.0, subst (λ (b : ℕ). code_bytes c b r.0 ≡ ys) e r.1)
 
+-- bytes that are present lie there
+present_lies : (c : Code) (a n : ℕ) (xs ys : List ℕ) → code_bytes c a n ≡ xs ++ ys → LiesAt c a xs
+unfolding code_bytes
+present_lies c a n [] ys h = tt
+present_lies c a zero (x ∷ xs) ys h = absurd cc
+present_lies c a (suc n) (x ∷ xs) ys h =
+    by_byte (c a) refl h (λ e. present_lies c (suc a) n xs ys e)
+  where
+    by_byte : (o : Option ℕ) → c a ≡ o
+        → code_bytes_on o (code_bytes c (suc a) n) ≡ x ∷ (xs ++ ys)
+        → (code_bytes c (suc a) n ≡ xs ++ ys → LiesAt c (suc a) xs) → LiesAt c a (x ∷ xs)
+    by_byte None e k rest = absurd cc
+    by_byte (Some z) e k rest =
+        let same : z ≡ x = cc in
+        let t : code_bytes c (suc a) n ≡ xs ++ ys = cc in
+        (e ∙ ap Some same, rest t)
+
 -- an occurrence that ends the instruction
-pub record IsWrpkru (c : Code) (rip len skip : ℕ) : Type 0 where
+pub record IsSequence (kind : SeqKind) (c : Code) (rip len skip : ℕ) : Type 0 where
   pub within : skip ≤ len
   pub short : len ≤ 15
   pub occurs : occurrence_at c (rip + skip)
-      ≡ Some (record { at = rip + skip; len = len - skip; kind = WrpkruKind })
+      ≡ Some (record { at = rip + skip; len = len - skip; kind = kind })
 
-pub wrpkru_fact : {N : ℕ → Type 0} → Decoder N → (c : Code) (rip len skip : ℕ) → OfCode N c
-    → decode (code_bytes c rip 15) ≡ answers.Insn Wrpkru len skip → IsWrpkru c rip len skip
-wrpkru_fact {N} d c rip len skip of h =
-    let w = d.wrpkru (code_bytes c rip 15) len skip (present_all N c rip 15 of) h in
-    let l = w.long in
-    let s = w.skipped in
+pub sequence_fact : {N : ℕ → Type 0} → Decoder N → (kind : SeqKind) (c : Code) (rip : ℕ)
+    (insn : Insn) (len skip : ℕ) → insn_kind insn ≡ Some kind → OfCode N c
+    → decode (code_bytes c rip 15) ≡ answers.Insn insn len skip → IsSequence kind c rip len skip
+sequence_fact {N} d kind c rip insn len skip is of h =
+    let w = d.sequence kind (code_bytes c rip 15) insn len skip is (present_all N c rip 15 of) h in
     let few = present_few c rip 15 in
-    let count : length (code_bytes c rip 15)
-    ≡ length w.front + length (0x0F ∷ 0x01 ∷ 0xEF ∷ w.back) = ap length w.parts
-    ∙ length-append w.front (0x0F ∷ 0x01 ∷ 0xEF ∷ w.back) in
-    let r = present_drop c rip 15 w.front (0x0F ∷ 0x01 ∷ 0xEF ∷ w.back) w.parts in
-    let at : rip + length w.front ≡ rip + skip = omega (arith, s) in
-    let q : code_bytes c (rip + skip) r.0 ≡ 0x0F ∷ 0x01 ∷ 0xEF ∷ w.back =
-    subst (λ (b : ℕ). code_bytes c b r.0 ≡ 0x0F ∷ 0x01 ∷ 0xEF ∷ w.back) at r.1 in
-    let b0 : c (rip + skip + 0) ≡ Some 0x0F =
-    present_get c (rip + skip) r.0 [] 0x0F (0x01 ∷ 0xEF ∷ w.back) q in
-    let e0 : rip + skip + 0 ≡ rip + skip = omega arith in
-    let three : 3 ≡ len - skip = omega (arith, l) in
+    let count : length (code_bytes c rip 15) ≡ length w.front + (length w.text + length w.back) =
+    ap length w.parts ∙ length-append w.front (w.text ++ w.back)
+    ∙ ap (λ n. length w.front + n) (length-append w.text w.back) in
+    let r = present_drop c rip 15 w.front (w.text ++ w.back) w.parts in
+    let at : rip + length w.front ≡ rip + skip = omega (arith, w.skipped) in
+    let there : code_bytes c (rip + skip) r.0 ≡ w.text ++ w.back =
+    subst (λ (b : ℕ). code_bytes c b r.0 ≡ w.text ++ w.back) at r.1 in
+    let long : length w.text ≡ len - skip = omega (arith, w.long) in
     record {
-      within = omega (arith, l);
-      short = omega (arith, l, s, few, count);
-      occurs = occurrence_from c (rip + skip)
-          (record { at = rip + skip; len = len - skip; kind = WrpkruKind }) (record {
-            first = sym (ap c e0) ∙ b0;
-            second = present_get c (rip + skip) r.0 (0x0F ∷ []) 0x01 (0xEF ∷ w.back) q;
-            third = present_get c (rip + skip) r.0 (0x0F ∷ 0x01 ∷ []) 0xEF w.back q;
-            is = ap (λ n. let o : Found = record { at = rip + skip; len = n; kind = WrpkruKind } in
-                o) (sym three);
-          });
+      within = omega (arith, w.long);
+      short = omega (arith, w.long, w.skipped, few, count);
+      occurs = w.spells c (rip + skip) (present_lies c (rip + skip) r.0 w.text w.back there)
+          ∙ ap (λ n. Some (let o : Found = record { at = rip + skip; len = n; kind = kind } in o))
+          long;
     }

@@ -1,10 +1,10 @@
--- A thread opens by a WRPKRU that occurs, and then stands at an entry or before its check.
-use Rattle.std.proofs.Common.{◌≡◌, ◌<◌, ◌+◌, ◌-◌, ◌/◌, ◌%◌, ◌^◌, ◌⊎◌, ◌++◌, ◌&&◌, ℕ, zero, suc}
+-- A thread opens by a sequence that occurs, and then stands at an entry or before its check.
+use Rattle.std.proofs.Common.{◌≡◌, ◌+◌, ◌-◌, ◌/◌, ◌%◌, ◌^◌, ◌⊎◌, ◌++◌, ◌&&◌, ℕ, zero, suc}
 use Rattle.std.proofs.Common.{List, [], ◌∷◌, Option, Some, None, true, false, ltb, refl, sym, ap}
-use Rattle.std.proofs.Common.{subst, ◌∙◌, arith, inl, inr}
+use Rattle.std.proofs.Common.{subst, ◌∙◌, inl, inr}
 use Rattle.std.specs.Prelude.{slice_get, slice_set}
 use Rattle.std.proofs.lemmas.Bool.{cases_Bool}
-use Rattle.erim_defs.specs.declared.found.SeqKind.TheVariants.{Wrpkru as WrpkruKind}
+use Rattle.erim_defs.specs.declared.found.SeqKind.{SeqKind}
 use Rattle.erim_defs.specs.declared.found.Found.{Found}
 use Rattle.erim_defs.specs.declared.machine.Rights.{Rights}
 use Rattle.erim_defs.specs.declared.machine.Thread.{Thread}
@@ -12,7 +12,6 @@ use Rattle.erim_defs.specs.declared.machine.Access.TheVariants.{Fault, Missing}
 use Rattle.erim_defs.specs.declared.insn.Insn.{Insn}
 use Rattle.erim_defs.specs.declared.insn.FetchOutcome.{FetchOutcome}
 use Rattle.erim_defs.specs.declared.insn.FetchOutcome.TheVariants.{Runs, Need, Wrong}
-use Rattle.erim_defs.specs.declared.insn.Insn.TheVariants.{Wrpkru}
 use Rattle.erim_defs.specs.Inspection.Code.{Code}
 use Rattle.erim_defs.specs.Machine.Pages.{code_with, asks_exec}
 use Rattle.erim_defs.specs.Machine.Access.{whole, opens}
@@ -31,10 +30,10 @@ use Rattle.erim_defs.specs.Machine.Step.{with_change, behind_syscall, after_verd
 use Rattle.erim_defs.specs.Machine.Step.{after_exec_fault, fetch, Runner}
 use Rattle.erim_defs.specs.Machine.Isolation.{IsSafeCode}
 use Rattle.isolation.specs.Laws.{Opened, OpenLaw}
-use Rattle.isolation.proofs.SequenceLemmas.{check_fits, occurrence_long, occurrence_there}
-use Rattle.isolation.proofs.ListLemmas.{wrpkru_fact}
-use Rattle.isolation.proofs.PlanLemmas.{Goes, done_goes}
-use Rattle.isolation.proofs.StandLemmas.{fetched_decoded, low_at}
+use Rattle.isolation.proofs.SequenceLemmas.{check_fits}
+use Rattle.isolation.proofs.ListLemmas.{sequence_fact}
+use Rattle.erim_defs.proofs.PlanLemmas.{Goes, done_goes}
+use Rattle.isolation.proofs.StandLemmas.{behind_sequence, fetched_decoded, free_kind, made_of}
 use Rattle.isolation.proofs.KeptLemmas.{code_kind, kept_later, kept_low}
 use Rattle.isolation.proofs.CallLemmas.{all_fine}
 use Rattle.isolation.proofs.AlwaysLemmas.{IsGood}
@@ -142,7 +141,7 @@ fault_threads (Some r) x t s = elim (cases_Bool (asks_exec r.asked && ltb (x / 4
   | inr k ↦ rw k refl
 ]
 
--- ---- WRPKRU
+-- ---- a sequence
 
 behind_gate : (trust : TrustValue) (c : Code) (o : Found) (rip : ℕ) → IsSafeCode trust c
     → occurrence_at c o.at ≡ Some o → rip ≡ o.at + o.len
@@ -152,43 +151,31 @@ behind_gate trust c o rip safe e r = elim (cases_Bool (opens_gate trust o.kind (
   | inr n ↦ inr (rw r (check_fits trust c o safe e n))
 ]
 
-opened_wrpkru : (s : State) (t i : ℕ) (a b new : Thread) (len skip : ℕ)
-    → IsGood Known s → i ≡ t → fetch (code s) a.rip ≡ Runs Wrpkru len skip → Goes Wrpkru len a new
-    → b ≡ with_origin (trust_of s) (sequence_of (record { insn = Wrpkru; len = len; skip = skip })
-    a.rip) new → Opened s t i a b
-opened_wrpkru s t i a b new len skip h own f g is =
-    let k = wrpkru_fact decoder (code s) a.rip len skip (code_kind Known s h.kind)
-    (fetched_decoded (code s) a.rip Wrpkru len skip f) in
-    let o : Found = record { at = a.rip + skip; len = len - skip; kind = WrpkruKind } in
-    let within = k.within in
-    let short = k.short in
-    let three : len - skip ≡ 3 = (occurrence_long (code s) (a.rip + skip) o k.occurs).0 in
-    let near : a.rip + skip < 2 ^ 47 =
-    low_at (code s) (a.rip + skip) (kept_low s h.kept)
-    (occurrence_there (code s) (a.rip + skip) o k.occurs (a.rip + skip) (omega arith)
-    (omega (arith, three))) in
-    let next : b.rip ≡ (a.rip + len) % 2 ^ 64 = ap (λ (x : Thread). x.rip) is ∙ g.next refl in
-    let to : b.rip ≡ o.at + o.len = omega (arith, next, within, short, near) in
-    record {
-      own = own;
-      insn = Wrpkru;
-      len = len;
-      skip = skip;
-      origin = o;
-      runs = f;
-      made = refl;
-      occurs = k.occurs;
-      rip = to;
-      behind = behind_gate (image_trust s.setup.image) (code s) o b.rip h.kept.safe k.occurs to;
-    }
-
 opened_free : (s : State) (t i : ℕ) (a b new : Thread) (insn : Insn) (len skip : ℕ)
     → IsGood Known s → i ≡ t → fetch (code s) a.rip ≡ Runs insn len skip → Goes insn len a new
     → b ≡ with_origin (trust_of s) (sequence_of (record { insn = insn; len = len; skip = skip })
     a.rip) new → is_free insn a ≡ true → Opened s t i a b
-opened_free s t i a b new Wrpkru len skip h own f g is free =
-    opened_wrpkru s t i a b new len skip h own f g is
-opened_free s t i a b new other len skip h own f g is free = absurd cc
+opened_free s t i a b new insn len skip h own f g is free =
+    let kind = free_kind insn a free in
+    let k : SeqKind = kind.0 in
+    let q = sequence_fact decoder k (code s) a.rip insn len skip kind.1 (code_kind Known s h.kind)
+    (fetched_decoded (code s) a.rip insn len skip f) in
+    let o : Found = record { at = a.rip + skip; len = len - skip; kind = k } in
+    let next : b.rip ≡ (a.rip + len) % 2 ^ 64 = ap (λ (x : Thread). x.rip) is ∙ g.next free in
+    let to : b.rip ≡ o.at + o.len =
+    behind_sequence (code s) a.rip b.rip len skip k (kept_low s h.kept) q next in
+    record {
+      own = own;
+      insn = insn;
+      len = len;
+      skip = skip;
+      origin = o;
+      runs = f;
+      made = made_of insn k len skip a.rip kind.1;
+      occurs = q.occurs;
+      rip = to;
+      behind = behind_gate (image_trust s.setup.image) (code s) o b.rip h.kept.safe q.occurs to;
+    }
 
 opened_done : (s : State) (t i : ℕ) (old a b new : Thread) (insn : Insn) (len skip : ℕ)
     → IsGood Known s → slice_get s.threads t ≡ Some old

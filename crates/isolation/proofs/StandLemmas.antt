@@ -1,18 +1,19 @@
 -- A thread stands in trusted text, in its check, or is closed: over an instruction, and over a
 -- call.
 use Rattle.std.proofs.Common.{◌≡◌, ◌≢◌, ◌<◌, ◌≤◌, ◌+◌, ◌-◌, ◌%◌, ◌^◌, ◌⊎◌, ℕ, List, length, Option}
-use Rattle.std.proofs.Common.{Some, None, Bool, true, false, not, ◌&&◌, refl, sym, ap, subst, ◌∙◌}
+use Rattle.std.proofs.Common.{Some, None, is_some, Bool, true, false, not, ◌&&◌, refl, sym, ap, subst, ◌∙◌}
 use Rattle.std.proofs.Common.{arith, inl, inr, ne_eqb, get_or-set_same}
 use Rattle.std.specs.Prelude.{slice_index}
 use Rattle.std.specs.Int.{w32}
 use Rattle.std.proofs.lemmas.Bool.{cases_Bool, cases_lt}
 use Rattle.erim_defs.specs.declared.found.SeqKind.{SeqKind}
 use Rattle.erim_defs.specs.declared.found.SeqKind.TheVariants.{Wrpkru as WrpkruKind}
+use Rattle.erim_defs.specs.declared.found.SeqKind.TheVariants.{Xrstor as XrstorKind}
 use Rattle.erim_defs.specs.declared.found.Found.{Found}
 use Rattle.erim_defs.specs.declared.machine.Thread.{Thread}
 use Rattle.erim_defs.specs.declared.machine.Flags.{Flags}
 use Rattle.erim_defs.specs.declared.insn.Insn.{Insn}
-use Rattle.erim_defs.specs.declared.insn.Insn.TheVariants.{Syscall, Wrpkru}
+use Rattle.erim_defs.specs.declared.insn.Insn.TheVariants.{Syscall, Wrpkru, Xrstor}
 use Rattle.erim_defs.specs.declared.insn.AluOp.TheVariants.{Cmp}
 use Rattle.erim_defs.specs.declared.insn.Decoded.{Decoded}
 use Rattle.erim_defs.specs.declared.insn.Decoded.TheVariants as answers
@@ -23,19 +24,22 @@ use Rattle.erim_defs.specs.Machine.Access.{Seen, opens}
 use Rattle.erim_defs.specs.Encoding.Decoding.{decode}
 use Rattle.erim_defs.specs.Machine.Plan.{Plan, Give, Write, Done, Called, effect}
 use Rattle.erim_defs.specs.Machine.Registers.{onward, with_register, eax, register}
-use Rattle.erim_defs.specs.Machine.Alu.{alu, condition}
-use Rattle.erim_defs.specs.Machine.Meaning.{plan, plan_alu, plan_jcc, plan_mov}
+use Rattle.erim_defs.specs.Machine.Alu.{alu, bt, condition}
+use Rattle.erim_defs.specs.Machine.Meaning.{plan, plan_alu, plan_bt, plan_jcc, plan_mov}
 use Rattle.erim_defs.specs.Machine.State.{with_origin, is_escape, is_outside, is_open}
 use Rattle.erim_defs.specs.Machine.Step.{is_free, sequence_of, fetch, fetch_as}
 use Rattle.erim_defs.specs.Machine.Isolation.{IsSafeCode, IsInCheck, Stands, PositionFact}
-use Rattle.isolation.proofs.SequenceLemmas.{is_there, occurrence_there, occurrence_long}
+use Rattle.erim_defs.proofs.OccurrenceLemmas.{occurrence_few, occurrence_there}
+use Rattle.erim_defs.proofs.SequenceEncodings.{insn_kind}
 use Rattle.isolation.proofs.DecoderFacts.{Decoder}
-use Rattle.isolation.proofs.ListLemmas.{OfCode, wrpkru_fact}
+use Rattle.isolation.proofs.ListLemmas.{OfCode, IsSequence, sequence_fact}
 use Rattle.isolation.proofs.CheckLemmas.{check_fetched}
-use Rattle.isolation.proofs.PlanLemmas.{Goes, done_goes}
+use Rattle.erim_defs.proofs.PlanLemmas.{Goes, done_goes}
 use Rattle.erim_defs.specs.Inspection.Trust.{in_text_of, TrustValue, is_entry_of}
 use Rattle.erim_defs.specs.Inspection.Check.{Position, Compare, Branch, Number, Leave, check_insn}
-use Rattle.erim_defs.specs.Inspection.Check.{check_bytes, position_start, closed_value}
+use Rattle.erim_defs.specs.Inspection.Check.{check_bytes, position_start, closed_value, pkru_bit}
+use Rattle.erim_defs.specs.Inspection.Safe.{opens_gate}
+use Rattle.erim_defs.specs.Bits.{has_bit}
 
 -- no byte of a code stands from 2^47 on
 abbrev pub IsLow : Code → Type 0
@@ -45,7 +49,7 @@ IsLow c = (a : ℕ) → 2 ^ 47 ≤ a → c a ≡ None
 abbrev pub EntriesIn : TrustValue → Type 0
 EntriesIn trust = (a : ℕ) → is_entry_of trust a ≡ true → in_text_of trust a ≡ true
 
-pub low_at : (c : Code) (a : ℕ) → IsLow c → is_there (c a) ≡ true → a < 2 ^ 47
+pub low_at : (c : Code) (a : ℕ) → IsLow c → is_some (c a) ≡ true → a < 2 ^ 47
 low_at c a l h = elim (cases_lt a (2 ^ 47)) [
   | inl e ↦ e
   | inr e ↦
@@ -91,6 +95,10 @@ settled_fact trust made t WrpkruKind next Compare h = h
 settled_fact trust made t WrpkruKind next Branch h = h
 settled_fact trust made t WrpkruKind next Number h = h
 settled_fact trust made t WrpkruKind next Leave h = h
+settled_fact trust made t XrstorKind next Compare h = h
+settled_fact trust made t XrstorKind next Branch h = h
+settled_fact trust made t XrstorKind next Number h = h
+settled_fact trust made t XrstorKind next Leave h = h
 
 -- a thread in its check stands when it is settled
 settled_check : (trust : TrustValue) (c : Code) (t : Thread) → IsInCheck trust c t
@@ -108,7 +116,7 @@ settled_check trust c t w = elim (cases_Bool (is_outside trust t)) [
   })
 ]
 
--- ---- behind WRPKRU
+-- ---- behind a sequence
 
 -- the closed value closes
 closed_closes : (trust : TrustValue) → is_open trust (closed_value trust) ≡ false
@@ -124,55 +132,93 @@ no_gate trust a rip h f e = elim (cases_Bool (is_entry_of trust a)) [
       let z : false ≡ true = sym g ∙ k in cc)
 ]
 
--- out behind WRPKRU: at the start of its check
-wrpkru_stands : {N : ℕ → Type 0} → Decoder N
-    → (trust : TrustValue) (c : Code) (len skip : ℕ) (t new : Thread)
-    → EntriesIn trust → OfCode N c → IsLow c
-    → fetch c t.rip ≡ Runs Wrpkru len skip → Goes Wrpkru len t new
-    → Stands trust c (with_origin trust
-    (sequence_of (record { insn = Wrpkru; len = len; skip = skip }) t.rip) new)
-wrpkru_stands d trust c len skip t new ent of low f g = elim (cases_Bool (is_outside trust new)) [
-  | inr n ↦ stands_in trust c (sequence_of (record { insn = Wrpkru; len = len; skip = skip }) t.rip)
-      new n
-  | inl out ↦
-      (let k = wrpkru_fact d c t.rip len skip of (fetched_decoded c t.rip Wrpkru len skip f) in
-      let o : Found = record { at = t.rip + skip; len = len - skip; kind = WrpkruKind } in
-      let within = k.within in
-      let short = k.short in
-      let long : len - skip ≡ 3 = (occurrence_long c (t.rip + skip) o k.occurs).0 in
-      let near : t.rip + skip < 2 ^ 47 =
-      low_at c (t.rip + skip) low (occurrence_there c (t.rip + skip) o k.occurs (t.rip + skip)
-      (omega arith) (omega (arith, long))) in
-      let r : new.rip ≡ (t.rip + len) % 2 ^ 64 = g.next refl in
-      let to : new.rip ≡ o.at + o.len = omega (arith, r, within, short, near) in
-      inr (record {
-        origin = o;
-        position = Compare;
-        from = settled_from trust (Some o) new out;
-        occurs = k.occurs;
-        gate = no_gate trust (o.at + o.len) new.rip ent (out_parts trust new out).1 to;
-        rip = omega (arith, to);
-        fact = λ e.
-            let same : eax new ≡ eax t =
-            ap (λ (r : List ℕ). slice_index r 0 % 2 ^ 32) (g.same refl) in
-            let p : new.pkru ≡ closed_value trust = g.value refl ∙ sym same ∙ e in
-            let z : is_open trust (closed_value trust) ≡ true =
-            rw p at (out_parts trust new out).0 in
-            let y : false ≡ true = sym (closed_closes trust) ∙ z in
-            absurd cc;
-      }))
-]
+-- an instruction that is free of escape is a sequence
+pub free_kind : (insn : Insn) (t : Thread) → is_free insn t ≡ true
+    → (k : SeqKind) × (insn_kind insn ≡ Some k)
+free_kind Wrpkru t f = (WrpkruKind, refl)
+free_kind (Xrstor m) t f = (XrstorKind, refl)
+free_kind other t f = absurd cc
 
--- after a step that is no escape the thread stands, whatever it was
+pub made_of : (insn : Insn) (k : SeqKind) (len skip rip : ℕ) → insn_kind insn ≡ Some k
+    → sequence_of (record { insn = insn; len = len; skip = skip }) rip
+    ≡ Some (record { at = rip + skip; len = len - skip; kind = k })
+made_of Wrpkru WrpkruKind len skip rip is = refl
+made_of Wrpkru XrstorKind len skip rip is = absurd cc
+made_of (Xrstor m) XrstorKind len skip rip is = refl
+made_of (Xrstor m) WrpkruKind len skip rip is = absurd cc
+made_of other k len skip rip is = absurd cc
+
+-- what is known where its check begins
+first_fact : (trust : TrustValue) (insn : Insn) (k : SeqKind) (next len : ℕ) (t new : Thread)
+    → insn_kind insn ≡ Some k → is_free insn t ≡ true → Goes insn len t new
+    → is_outside trust new ≡ true → PositionFact trust k next Compare new
+first_fact trust Wrpkru WrpkruKind next len t new is free g out = λ e.
+    let same : eax new ≡ eax t = ap (λ (r : List ℕ). slice_index r 0 % 2 ^ 32) (g.same refl) in
+    let p : new.pkru ≡ closed_value trust = g.value refl ∙ sym same ∙ e in
+    let z : is_open trust (closed_value trust) ≡ true = rw p at (out_parts trust new out).0 in
+    let y : false ≡ true = sym (closed_closes trust) ∙ z in
+    absurd cc
+first_fact trust (Xrstor m) XrstorKind next len t new is free g out =
+    let same : eax new ≡ eax t = ap (λ (r : List ℕ). slice_index r 0 % 2 ^ 32) (g.same free) in
+    rw same free
+first_fact trust Wrpkru XrstorKind next len t new is free g out = absurd cc
+first_fact trust (Xrstor m) WrpkruKind next len t new is free g out = absurd cc
+first_fact trust other k next len t new is free g out = absurd cc
+
+-- an entry behind it would be in trusted text
+first_gate : (trust : TrustValue) (k : SeqKind) (a rip : ℕ) → EntriesIn trust
+    → in_text_of trust rip ≡ false → rip ≡ a → opens_gate trust k a ≡ false
+first_gate trust WrpkruKind a rip h f e = no_gate trust a rip h f e
+first_gate trust XrstorKind a rip h f e = refl
+
+-- where the thread stands behind it
+pub behind_sequence : (c : Code) (rip new len skip : ℕ) (k : SeqKind) → IsLow c
+    → IsSequence k c rip len skip → new ≡ (rip + len) % 2 ^ 64
+    → new ≡ rip + skip + (len - skip)
+behind_sequence c rip new len skip k low q e =
+    let o : Found = record { at = rip + skip; len = len - skip; kind = k } in
+    let long = occurrence_few c (rip + skip) o q.occurs in
+    let near : rip + skip < 2 ^ 47 =
+    low_at c (rip + skip) low (occurrence_there c (rip + skip) o q.occurs (rip + skip)
+    (omega arith) (omega (arith, long.many))) in
+    omega (arith, e, q.within, q.short, near)
+
+-- after a step that is no escape the thread stands, whatever it was: out, it is at the start of its
+-- check
 pub free_stands : {N : ℕ → Type 0} → Decoder N
     → (trust : TrustValue) (c : Code) (insn : Insn) (len skip : ℕ) (t new : Thread)
     → EntriesIn trust → OfCode N c → IsLow c
     → fetch c t.rip ≡ Runs insn len skip → is_free insn t ≡ true → Goes insn len t new
     → Stands trust c (with_origin trust
     (sequence_of (record { insn = insn; len = len; skip = skip }) t.rip) new)
-free_stands d trust c Wrpkru len skip t new ent of low f a g =
-    wrpkru_stands d trust c len skip t new ent of low f g
-free_stands d trust c other len skip t new ent of low f a g = absurd cc
+free_stands d trust c insn len skip t new ent of low f free g =
+    elim (cases_Bool (is_outside trust new)) [
+      | inr n ↦ stands_in trust c
+          (sequence_of (record { insn = insn; len = len; skip = skip }) t.rip) new n
+      | inl out ↦
+          (let kind = free_kind insn t free in
+          let k : SeqKind = kind.0 in
+          let q = sequence_fact d k c t.rip insn len skip kind.1 of
+          (fetched_decoded c t.rip insn len skip f) in
+          let o : Found = record { at = t.rip + skip; len = len - skip; kind = k } in
+          let to : new.rip ≡ o.at + o.len =
+          behind_sequence c t.rip new.rip len skip k low q (g.next free) in
+          rw (made_of insn k len skip t.rip kind.1) (inr (record {
+            origin = o;
+            position = Compare;
+            from = settled_from trust (Some o) new out;
+            occurs = q.occurs;
+            gate = first_gate trust k (o.at + o.len) new.rip ent (out_parts trust new out).1 to;
+            rip = start_at trust k new.rip (o.at + o.len) to;
+            fact = settled_fact trust (Some o) new k (o.at + o.len) Compare
+                (first_fact trust insn k (o.at + o.len) len t new kind.1 free g out);
+          })))
+    ]
+  where
+    start_at : (trust : TrustValue) (k : SeqKind) (rip next : ℕ) → rip ≡ next
+        → rip ≡ next + position_start trust k next Compare
+    start_at trust WrpkruKind rip next e = omega arith
+    start_at trust XrstorKind rip next e = omega arith
 
 -- ---- in its check
 
@@ -183,15 +229,24 @@ place_after trust WrpkruKind next Compare len t =
 place_after trust WrpkruKind next Branch len t = onward len t
 place_after trust WrpkruKind next Number len t = with_register (onward len t) 0 231
 place_after trust WrpkruKind next Leave len t = t
+place_after trust XrstorKind next Compare len t =
+    record (onward len t) { flags = bt w32 (eax t) pkru_bit t.flags }
+place_after trust XrstorKind next Branch len t = onward len t
+place_after trust XrstorKind next Number len t = with_register (onward len t) 0 231
+place_after trust XrstorKind next Leave len t = t
 
 pub place_plan : (trust : TrustValue) (k : SeqKind) (next : ℕ) (p : Position) (len : ℕ) (t : Thread)
     → p ≢ Leave → PositionFact trust k next p t
     → plan (check_insn trust k next p) len t ≡ Give (place_after trust k next p len t) None
-unfolding plan plan_alu plan_jcc plan_mov condition
+unfolding plan plan_alu plan_bt plan_jcc plan_mov condition
 place_plan trust WrpkruKind next Compare len t n f = refl
 place_plan trust WrpkruKind next Branch len t n f = rw f refl
 place_plan trust WrpkruKind next Number len t n f = refl
 place_plan trust WrpkruKind next Leave len t n f = absurd (n refl)
+place_plan trust XrstorKind next Compare len t n f = refl
+place_plan trust XrstorKind next Branch len t n f = rw f refl
+place_plan trust XrstorKind next Number len t n f = refl
+place_plan trust XrstorKind next Leave len t n f = absurd (n refl)
 
 abbrev place_next : Position → Position
 place_next Compare = Branch
@@ -205,6 +260,11 @@ compared_not : (a : ℕ) (f : Flags) → a < 2 ^ 32 → a ≢ 0x55555554
 unfolding alu
 compared_not a f low n = ne_eqb _ _ (λ e. absurd (omega (arith, low, n, e)))
 
+-- a bit that is set is carried when it is tested
+tested_bit : (a : ℕ) (f : Flags) → has_bit a pkru_bit ≡ true → (bt w32 a pkru_bit f).cf ≡ true
+unfolding bt
+tested_bit a f h = h
+
 -- the facts lead on
 place_fact : (trust : TrustValue) (k : SeqKind) (next : ℕ) (p : Position) (len : ℕ) (t : Thread)
     → p ≢ Leave → length t.regs ≡ 16 → PositionFact trust k next p t
@@ -214,6 +274,11 @@ place_fact trust WrpkruKind next Branch len t n l f = tt
 place_fact trust WrpkruKind next Number len t n l f = let h : 0 < length t.regs =
     omega (arith, l) in get_or-set_same t.regs 0 231 0 h
 place_fact trust WrpkruKind next Leave len t n l f = absurd (n refl)
+place_fact trust XrstorKind next Compare len t n l f = tested_bit (eax t) t.flags f
+place_fact trust XrstorKind next Branch len t n l f = tt
+place_fact trust XrstorKind next Number len t n l f = let h : 0 < length t.regs =
+    omega (arith, l) in get_or-set_same t.regs 0 231 0 h
+place_fact trust XrstorKind next Leave len t n l f = absurd (n refl)
 
 pub record Moves (trust : TrustValue) (k : SeqKind) (next : ℕ) (p : Position) (len : ℕ)
     (t : Thread) : Type 0 where
@@ -232,6 +297,13 @@ place_moves trust WrpkruKind next Branch len t n =
 place_moves trust WrpkruKind next Number len t n =
     record { rip = refl; origin = refl; start = refl; short = omega arith }
 place_moves trust WrpkruKind next Leave len t n = absurd (n refl)
+place_moves trust XrstorKind next Compare len t n =
+    record { rip = refl; origin = refl; start = refl; short = omega arith }
+place_moves trust XrstorKind next Branch len t n =
+    record { rip = refl; origin = refl; start = refl; short = omega arith }
+place_moves trust XrstorKind next Number len t n =
+    record { rip = refl; origin = refl; start = refl; short = omega arith }
+place_moves trust XrstorKind next Leave len t n = absurd (n refl)
 
 -- the check goes on
 check_next : (trust : TrustValue) (c : Code) (t : Thread) → IsLow c → length t.regs ≡ 16
@@ -241,10 +313,10 @@ check_next : (trust : TrustValue) (c : Code) (t : Thread) → IsLow c → length
 check_next trust c t low regs w n =
     let m = place_moves trust w.origin.kind (w.origin.at + w.origin.len) w.position
     (length (check_bytes trust w.origin.kind (w.origin.at + w.origin.len) w.position)) t n in
-    let three : w.origin.len ≡ 3 = (occurrence_long c w.origin.at w.origin w.occurs).0 in
+    let long = occurrence_few c w.origin.at w.origin w.occurs in
     let near : w.origin.at < 2 ^ 47 =
     low_at c w.origin.at low (occurrence_there c w.origin.at w.origin w.occurs w.origin.at
-    (omega arith) (omega (arith, three))) in
+    (omega arith) (omega (arith, long.many))) in
     let r = w.rip in
     let to = m.rip in
     let start = m.start in
@@ -255,7 +327,7 @@ check_next trust c t low regs w n =
       from = m.origin ∙ w.from;
       occurs = w.occurs;
       gate = w.gate;
-      rip = omega (arith, r, three, near, to, start, short);
+      rip = omega (arith, r, long.few, near, to, start, short);
       fact = place_fact trust w.origin.kind (w.origin.at + w.origin.len) w.position
           (length (check_bytes trust w.origin.kind (w.origin.at + w.origin.len) w.position)) t n
           regs w.fact;
@@ -273,6 +345,7 @@ runs_same i j l m k n h = (cc, cc)
 pub leave_insn : (trust : TrustValue) (k : SeqKind) (next : ℕ) (p : Position) → p ≡ Leave
     → check_insn trust k next p ≡ Syscall
 leave_insn trust WrpkruKind next p e = rw e refl
+leave_insn trust XrstorKind next p e = rw e refl
 
 syscall_not : (len : ℕ) (t new : Thread) (wr : Option Write) (seen : Seen) (bytes : ByteMap)
     (pkru rip : ℕ) → effect (plan Syscall len t) seen bytes pkru rip ≡ Done new wr → ⊥
@@ -293,6 +366,10 @@ place_made trust WrpkruKind next Compare rip len skip = refl
 place_made trust WrpkruKind next Branch rip len skip = refl
 place_made trust WrpkruKind next Number rip len skip = refl
 place_made trust WrpkruKind next Leave rip len skip = refl
+place_made trust XrstorKind next Compare rip len skip = refl
+place_made trust XrstorKind next Branch rip len skip = refl
+place_made trust XrstorKind next Number rip len skip = refl
+place_made trust XrstorKind next Leave rip len skip = refl
 
 pub is_leave : (p : Position) → (p ≡ Leave) ⊎ (p ≢ Leave)
 is_leave Leave = inl refl
@@ -424,6 +501,10 @@ called_check d trust c t insn len skip seen bytes pkru rip of safe w f h =
     by_place WrpkruKind next Compare (inl x) f e = absurd cc
     by_place WrpkruKind next Branch (inl x) f e = absurd cc
     by_place WrpkruKind next Number (inl x) f e = absurd cc
+    by_place XrstorKind next Leave (inl x) f e = f
+    by_place XrstorKind next Compare (inl x) f e = absurd cc
+    by_place XrstorKind next Branch (inl x) f e = absurd cc
+    by_place XrstorKind next Number (inl x) f e = absurd cc
 
 -- over a call: the caller isn't out, unless it escaped
 pub called_stands : {N : ℕ → Type 0} → Decoder N

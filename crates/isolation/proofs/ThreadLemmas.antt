@@ -1,6 +1,6 @@
 -- What is said of each thread: over a thread that is set or added, and over code that changes
 -- elsewhere.
-use Rattle.std.proofs.Common.{◌≡◌, ◌++◌, ℕ, zero, suc, List, [], ◌∷◌, Option, Some, None, true}
+use Rattle.std.proofs.Common.{◌+◌, ◌≡◌, ◌++◌, ℕ, zero, suc, List, [], ◌∷◌, Option, Some, None, is_some, true}
 use Rattle.std.proofs.Common.{false, refl, subst, inl, inr}
 use Rattle.std.specs.Prelude.{slice_set, slice_get}
 use Rattle.erim_defs.specs.declared.found.Found.{Found}
@@ -9,7 +9,7 @@ use Rattle.erim_defs.specs.Inspection.Code.{Code}
 use Rattle.erim_defs.specs.Inspection.Occurrence.{occurrence_at}
 use Rattle.erim_defs.specs.Machine.State.{with_origin, is_outside}
 use Rattle.erim_defs.specs.Machine.Isolation.{Each, Stands}
-use Rattle.isolation.proofs.SequenceLemmas.{Agree, is_there, occurrence_same, occurrence_there}
+use Rattle.erim_defs.proofs.OccurrenceLemmas.{Agrees, occurrence_same, occurrence_there}
 use Rattle.erim_defs.specs.Inspection.Trust.{TrustValue}
 
 pub each_at : (P : Thread → Type 0) (ts : List Thread) (i : ℕ) (t : Thread) → Each P ts
@@ -36,7 +36,8 @@ each_map P Q (x ∷ ts) f h = (f x h.0, each_map P Q ts f h.1)
 
 -- a thread stands on where the bytes of its origin stay
 pub stands_same : (trust : TrustValue) (c d : Code) (t : Thread)
-    → ((o : Found) → t.origin ≡ Some o → occurrence_at d o.at ≡ Some o → Agree c d o.at o.len)
+    → ((o : Found) → t.origin ≡ Some o → occurrence_at d o.at ≡ Some o
+    → Agrees c d o.at (o.at + o.len))
     → Stands trust d t → Stands trust c t
 stands_same trust c d t f (inl n) = inl n
 stands_same trust c d t f (inr w) = inr (record {
@@ -52,7 +53,7 @@ stands_same trust c d t f (inr w) = inr (record {
 -- c changes no byte of a live thread's origin
 abbrev pub KeepsOrigins : Code → Code → List Thread → Type 0
 KeepsOrigins c d ts = Each (λ t. t.live ≡ true → (o : Found) → t.origin ≡ Some o
-    → Agree c d o.at o.len) ts
+    → Agrees c d o.at (o.at + o.len)) ts
 
 -- so that each thread stands on
 pub each_kept : (trust : TrustValue) (c d : Code) (ts : List Thread) → KeepsOrigins c d ts
@@ -69,7 +70,7 @@ origins_same c d (t ∷ ts) same = (λ l o e x low high. same x, origins_same c 
 
 -- a code that only grows keeps every thread standing
 pub each_grown : (trust : TrustValue) (c d : Code) (ts : List Thread)
-    → ((x : ℕ) → is_there (d x) ≡ true → c x ≡ d x)
+    → ((x : ℕ) → is_some (d x) ≡ true → c x ≡ d x)
     → Each (λ t. t.live ≡ true → Stands trust d t) ts
     → Each (λ t. t.live ≡ true → Stands trust c t) ts
 each_grown trust c d ts g h =

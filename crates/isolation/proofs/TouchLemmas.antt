@@ -5,7 +5,7 @@ use Rattle.std.proofs.Common.{not, is_some, refl, sym, ap, subst, ◌∙◌, ari
 use Rattle.std.proofs.Common.{eq-eqb}
 use Rattle.std.proofs.lemmas.Bool.{cases_Bool, eqb-false}
 use Rattle.erim_defs.specs.declared.found.SeqKind.{SeqKind}
-use Rattle.erim_defs.specs.declared.found.SeqKind.TheVariants.{Wrpkru}
+use Rattle.erim_defs.specs.declared.found.SeqKind.TheVariants.{Wrpkru, Xrstor}
 use Rattle.erim_defs.specs.declared.machine.Rights.{Rights}
 use Rattle.erim_defs.specs.declared.machine.Thread.{Thread}
 use Rattle.erim_defs.specs.declared.machine.Access.{Access}
@@ -124,6 +124,7 @@ leave_reaches : (trust : TrustValue) (k : SeqKind) (next len : ℕ) (t : Thread)
     → Reaches (plan (check_insn trust k next Leave) len t) seen bytes pkru x → ⊥
 unfolding plan
 leave_reaches trust Wrpkru next len t seen bytes pkru x r = r
+leave_reaches trust Xrstor next len t seen bytes pkru x r = r
 
 place_reaches : (trust : TrustValue) (k : SeqKind) (next : ℕ) (p : Position) (len : ℕ) (t : Thread)
     (seen : Seen) (bytes : ByteMap) (pkru x : ℕ) → PositionFact trust k next p t

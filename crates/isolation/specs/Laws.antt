@@ -10,7 +10,7 @@ use Rattle.erim_defs.specs.declared.insn.Insn.{Insn}
 use Rattle.erim_defs.specs.declared.insn.Insn.TheVariants.{Syscall}
 use Rattle.erim_defs.specs.declared.insn.FetchOutcome.TheVariants.{Runs, Need}
 use Rattle.erim_defs.specs.Machine.Pages.{ByteMap, word, is_published, code_with, asks_exec}
-use Rattle.erim_defs.specs.Machine.Access.{Seen, stop, whole, opens}
+use Rattle.erim_defs.specs.Machine.Access.{Seen, stop, whole}
 use Rattle.erim_defs.specs.Inspection.Occurrence.{occurrence_at}
 use Rattle.erim_defs.specs.Inspection.Safe.{opens_gate, fits}
 use Rattle.erim_defs.specs.Inspection.Unsafe.{unsafe_list}
@@ -72,7 +72,8 @@ pub data ChecksOn (s new : State) (t : ℕ) (old : Thread) : Type 0 where
       → check.position ≢ Leave
       → fetch (code s) old.rip
       ≡ Runs (check_insn (trust_of s) check.origin.kind (check.origin.at + check.origin.len)
-      check.position) len 0 → slice_get new.threads t ≡ Some after → after.rip ≡ old.rip + len → ChecksOn s new t old
+      check.position) len 0 → slice_get new.threads t ≡ Some after → after.rip ≡ old.rip + len
+      → ChecksOn s new t old
   -- exit_group, the last one
   Ends : (len : ℕ) → fetch (code s) old.rip ≡ Runs Syscall len 0 → register old 0 ≡ 231
       → new.end ≡ Some (Exit (register old 7 % 256)) → ChecksOn s new t old

@@ -39,8 +39,8 @@ pub fn touched()
     ensures { TouchLaw }
 {}
 
-/// A thread opens only by a WRPKRU that occurs in the code, and then stands at an entry or before
-/// the check.
+/// A thread opens only by a WRPKRU or an XRSTOR that occurs in the code, and then stands at an entry
+/// or before the check.
 pub fn opened()
     ensures { OpenLaw }
 {}

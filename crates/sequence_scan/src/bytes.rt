@@ -1,11 +1,11 @@
 //! The bytes of a code, by their places.
 
 ghost use Rattle.std.specs.Prelude.{◌≡◌, ◌+◌, ℕ};
-ghost use Rattle.erim_defs.specs.Inspection.Code.{laid_at, has, allows};
+ghost use Rattle.erim_defs.specs.Inspection.Code.{laid_at, has};
 
 /// The byte at a place of the code, or none behind its end.
 #[tactic(auto, using(erim_defs::proofs::CodeLemmas::laid_at_place))]
-fn byte_at(code: &[u8], place: usize) -> Option<u8>
+pub fn byte_at(code: &[u8], place: usize) -> Option<u8>
     ensures { (base a : ℕ) → a ≡ base + place → laid_at base code.now a ≡ result }
 {
     code.get(place).copied()
@@ -16,14 +16,4 @@ pub fn byte_is(code: &[u8], place: usize, byte: u8) -> bool
     ensures { (base a : ℕ) → a ≡ base + place → has (laid_at base code.now a) byte ≡ result }
 {
     byte_at(code, place) == Some(byte)
-}
-
-/// Is the byte at a place of the code absent, or this one?
-pub fn byte_allows(code: &[u8], place: usize, byte: u8) -> bool
-    ensures { (base a : ℕ) → a ≡ base + place → allows (laid_at base code.now a) byte ≡ result }
-{
-    match byte_at(code, place) {
-        Some(there) => there == byte,
-        None => true,
-    }
 }

@@ -5,26 +5,22 @@ ghost use Rattle.erim_defs.specs.Inspection.Code.{laid_at};
 ghost use Rattle.erim_defs.specs.Inspection.Occurrence.{occurrence_at, IsFirstFrom};
 
 use crate::bytes::byte_is;
-use erim_defs::{Found, SeqKind};
+use crate::wrpkru::wrpkru_at;
+use crate::xrstor::xrstor_at;
+use erim_defs::Found;
 
-/// The sequence that begins at `place`, if there is one.
+/// The sequence that begins at `place`, if there is one. Both kinds begin with 0F, which few places
+/// have, so it is asked first.
 #[tactic(auto, unfolding(erim_defs::specs::Inspection::Occurrence::occurrence_at))]
 fn sequence_at(code: &[u8], base: u64, place: usize) -> Option<Found>
     requires inside { place < length code.now }
     requires user { base + length code.now ≤ 2 ^ 47 }
     ensures { result ≡ occurrence_at (laid_at base code.now) (base + place) }
 {
-    if byte_is(code, place, 0x0F)
-        && byte_is(code, place + 1, 0x01)
-        && byte_is(code, place + 2, 0xEF)
-    {
-        return Some(Found {
-            at: base + place as u64,
-            len: 3,
-            kind: SeqKind::Wrpkru,
-        });
+    if !byte_is(code, place, 0x0F) {
+        return None;
     }
-    None
+    wrpkru_at(code, base, place).or_else(|| xrstor_at(code, base, place))
 }
 
 /// The first sequence at or after the place `from` that lies wholly in `code`, whose place 0 has

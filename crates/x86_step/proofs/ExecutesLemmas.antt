@@ -13,16 +13,15 @@ use Rattle.erim_defs.specs.declared.insn.Place.TheVariants.{Reg, High, At}
 use Rattle.erim_defs.specs.declared.insn.Src.{Src}
 use Rattle.erim_defs.specs.declared.insn.Src.TheVariants.{From}
 use Rattle.erim_defs.specs.declared.insn.Width.{Width}
-use Rattle.erim_defs.specs.Machine.Pages.{ByteMap, word}
+use Rattle.erim_defs.specs.Machine.Pages.{word}
 use Rattle.erim_defs.specs.Machine.Access.{Seen, stop}
 use Rattle.erim_defs.specs.declared.machine.Access.TheVariants.{Fault}
 use Rattle.erim_defs.specs.declared.machine.Cause.TheVariants.{General}
-use Rattle.erim_defs.specs.Machine.Plan.{Plan, Ask, Give, Refuse, Write, Effect, effect, unless}
-use Rattle.erim_defs.specs.Machine.Plan.{Done, Stopped}
+use Rattle.erim_defs.specs.Machine.Plan.{Plan, Ask, Give, Refuse, effect, unless}
 use Rattle.erim_defs.specs.Machine.Registers.{byte_count, with_operand}
 use Rattle.erim_defs.specs.Machine.Operands.{address, on_place, on_source, write_to}
 use Rattle.erim_defs.specs.Machine.Meaning.{write_back}
-use Rattle.page_store.specs.Answers.{or_stop, load_of, bytes_after_store, bytes_unless}
+use Rattle.page_store.specs.Answers.{or_stop, load_of, bytes_after_store}
 use Rattle.page_store.specs.Notes.{NoteMap, Notes, AllHeldNoted, looked_access, unless_stopped}
 use Rattle.page_store.specs.declared.memory.Memory.{Ghosts}
 use Rattle.x86_step.specs.Looked.{looked}
@@ -308,3 +307,34 @@ executes_other g x a p q t to memory after r e h = rw (ne_eqb _ _ e) h
 pub gives_plan : {M : Type 0} (g : Ghosts M) (p : Plan) (t to : Thread) (memory : M)
     → p ≡ Give to None → Executes g p t to memory memory (Ok tt)
 gives_plan g p t to memory e = rw e (gives g t to memory)
+
+-- a number that is got where a condition holds
+pub gets_then : {M : Type 0} (g : Ghosts M) (b : Bool) (on other : (ℕ → Plan) → Plan) (t : Thread)
+    (memory after : M) (r : Result ℕ Access) → b ≡ true → Gets g on t memory after r
+    → Gets g (λ k. if b then on k else other k) t memory after r
+gets_then g b on other t memory after r e h =
+    subst (λ (x : Bool). Gets g (λ k. if x then on k else other k) t memory after r) (sym e) h
+
+-- a plan that asks a condition first
+pub executes_then : {M : Type 0} (g : Ghosts M) (b : Bool) (p q : Plan) (t to : Thread)
+    (memory after : M) (r : Result (Unit {0}) Access) → b ≡ true → Executes g p t to memory after r
+    → Executes g (if b then p else q) t to memory after r
+executes_then g b p q t to memory after r e h = rw e h
+
+pub executes_else : {M : Type 0} (g : Ghosts M) (b : Bool) (p q : Plan) (t to : Thread)
+    (memory after : M) (r : Result (Unit {0}) Access) → b ≡ false → Executes g q t to memory after r
+    → Executes g (if b then p else q) t to memory after r
+executes_else g b p q t to memory after r e h = rw e h
+
+-- where an instruction goes on its condition holds
+pub allowed : (b : Bool) (rip : ℕ) (r : Answer) (u : Unit {0})
+    → r ≡ (if b then Ok tt else Err (Fault General rip)) → r ≡ Ok u → b ≡ true
+allowed true rip r u e q = refl
+allowed false rip r u e q = absurd (cc)
+
+-- and where it doesn't it is refused
+pub refused : {M : Type 0} (g : Ghosts M) (b : Bool) (p : Plan) (t : Thread) (memory : M)
+    (r : Answer) (a : Access) → r ≡ (if b then Ok tt else Err (Fault General t.rip)) → r ≡ Err a
+    → Executes g (if b then p else Refuse) t t memory memory r
+refused g true p t memory r a e q = absurd (cc)
+refused g false p t memory r a e q = rw e (refuses g t memory)

@@ -1,3 +1,4 @@
 pub mod BoundaryLemmas
 pub mod ExecutesLemmas
+pub mod HeaderLemmas
 pub mod WordLemmas

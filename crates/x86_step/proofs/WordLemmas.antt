@@ -1,7 +1,7 @@
 -- Numbers that are loaded fit their bytes.
 use Rattle.std.proofs.Common.{◌≡◌, ◌<◌, ◌+◌, ◌*◌, ◌/◌, ◌%◌, ◌^◌, ℕ, zero, suc, Option, Some, None}
 use Rattle.std.proofs.Common.{Result}
-use Rattle.std.proofs.Common.{Ok, Err, IfOk, refl, arith, ap, ◌∙◌, ◌≤◌, ◌-◌}
+use Rattle.std.proofs.Common.{Ok, Err, IfOk, arith, ap, ◌∙◌, ◌≤◌, ◌-◌}
 use Rattle.std.proofs.lemmas.Nat.{pow-add}
 use Rattle.erim_defs.specs.declared.machine.Access.{Access}
 use Rattle.erim_defs.specs.Machine.Pages.{ByteMap, word}

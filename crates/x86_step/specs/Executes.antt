@@ -1,14 +1,10 @@
 -- The contract of every function that executes. Own.
-use Rattle.std.specs.Prelude.{◌≡◌, ℕ, Option, Some, None, Result, Ok, Err}
+use Rattle.std.specs.Prelude.{◌≡◌, ℕ, Option, Some, None, Result, Ok, Err, List}
 use Rattle.erim_defs.specs.declared.machine.Thread.{Thread}
 use Rattle.erim_defs.specs.declared.machine.Access.{Access}
-use Rattle.erim_defs.specs.declared.insn.Place.{Place}
-use Rattle.erim_defs.specs.declared.insn.Width.{Width}
 use Rattle.erim_defs.specs.Machine.Pages.{ByteMap}
 use Rattle.erim_defs.specs.Machine.Plan.{Plan, Write, Effect, Done, Stopped, Called, effect}
 use Rattle.erim_defs.specs.Machine.Plan.{bytes_after_write}
-use Rattle.erim_defs.specs.Machine.Registers.{with_operand}
-use Rattle.erim_defs.specs.Machine.Operands.{write_to}
 use Rattle.page_store.specs.Notes.{Notes}
 use Rattle.page_store.specs.declared.memory.Memory.{Ghosts}
 use Rattle.x86_step.specs.Looked.{looked}
@@ -47,6 +43,15 @@ Gets {M} g on t memory after (Ok v) =
     (k : ℕ → Plan) (to : Thread) (last : M) (r : Result (Unit {0}) Access)
     → Executes g (k v) t to after last r → Executes g (on k) t to memory last r
 Gets g on t memory after (Err a) = (k : ℕ → Plan) → Executes g (on k) t t memory after (Err a)
+
+-- Numbers were got, one after the other, alike.
+abbrev pub GetsNumbers : {M : Type 0} → Ghosts M → ((List ℕ → Plan) → Plan) → Thread → M → M
+    → Result (List ℕ) Access → Type 0
+GetsNumbers {M} g on t memory after (Ok xs) =
+    (k : List ℕ → Plan) (to : Thread) (last : M) (r : Result (Unit {0}) Access)
+    → Executes g (k xs) t to after last r → Executes g (on k) t to memory last r
+GetsNumbers g on t memory after (Err a) =
+    (k : List ℕ → Plan) → Executes g (on k) t t memory after (Err a)
 
 -- A result was stored, where it is to be, and the thread has still to become what it is to be: that
 -- executes a plan. An access that stopped stops it.

@@ -1,5 +1,4 @@
 -- What the execution of an instruction answers, and what it leaves. Own.
-use Rattle.std.specs.Prelude.{ℕ}
 use Rattle.erim_defs.specs.declared.machine.Thread.{Thread}
 use Rattle.erim_defs.specs.declared.machine.Access.TheVariants.{Fault, Missing}
 use Rattle.erim_defs.specs.declared.insn.Insn.{Insn}

@@ -26,6 +26,7 @@ use crate::moves::{
 use crate::origin::{is_free, is_inside, is_outside, sequence_of, set_origin};
 use crate::registers::{jump, onward, set_register};
 use crate::rights::{exec_rdpkru, exec_wrpkru, if_allowed};
+use crate::xrstor::exec_xrstor;
 use erim_defs::{Access, Insn, Thread, Trust, Width};
 use page_store::Memory;
 
@@ -84,7 +85,8 @@ fn execute<M: Memory>(
         Insn::Xadd { w, dst, r, .. } => exec_xadd(*w, dst, r, len, thread, memory),
         Insn::Wrpkru => if_allowed(exec_wrpkru(len, thread), thread),
         Insn::Rdpkru => if_allowed(exec_rdpkru(len, thread), thread),
-        Insn::Syscall | Insn::Xrstor { .. } => if_allowed(false, thread),
+        Insn::Syscall => if_allowed(false, thread),
+        Insn::Xrstor { m } => exec_xrstor(m, len, thread, memory),
         Insn::Fence { .. } | Insn::Nop => Ok(onward(thread, len)),
     }
 }

@@ -5,9 +5,9 @@
 //! were looked at. Nothing changes where an access stops. The inner functions have one contract,
 //! `Executes`, each for the plan of its kind; operands come by `Gets`, and results go by `Puts`. In
 //! the files: `registers` has registers at each width, `operands` what stands in memory,
-//! `arithmetic`, `moves`, `flow`, `exchanges` and `rights` the kinds of instructions, `origin` the
-//! origin of a thread and its escape, and `execution` all kinds. `boundary` is the law of what an
-//! execution on a part of the pages says of other memories.
+//! `arithmetic`, `moves`, `flow`, `exchanges`, `rights` and `xrstor` the kinds of instructions,
+//! `origin` the origin of a thread and its escape, and `execution` all kinds. `boundary` is the law
+//! of what an execution on a part of the pages says of other memories.
 #![tactic(auto)]
 
 mod answer;
@@ -21,6 +21,7 @@ mod operands;
 mod origin;
 mod registers;
 mod rights;
+mod xrstor;
 
 pub use answer::Exec;
 pub use execution::exec;

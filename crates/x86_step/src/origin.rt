@@ -5,6 +5,7 @@ ghost use Rattle.erim_defs.specs.Machine.State.{is_escape, is_inside, is_outside
 ghost use Rattle.erim_defs.specs.Machine.Step.{is_free, sequence_of};
 ghost use Rattle.x86_step.specs.Placed.{IsPlaced};
 
+use crate::xrstor::asks_pkru;
 use erim_defs::page::TRUSTED_KEY;
 use erim_defs::{Found, Insn, SeqKind, Thread, Trust};
 use thread_state::opens;
@@ -48,20 +49,25 @@ pub(crate) fn sequence_of(insn: &Insn, rip: u64, len: u8, skip: u8) -> Option<Fo
     requires placed { IsPlaced rip len skip }
     ensures { result ≡ sequence_of (record { insn = insn.now; len = len; skip = skip }) rip }
 {
-    match insn {
-        Insn::Wrpkru => Some(Found {
-            at: rip + u64::from(skip),
-            len: len - skip,
-            kind: SeqKind::Wrpkru,
-        }),
-        _ => None,
-    }
+    let kind = match insn {
+        Insn::Wrpkru => SeqKind::Wrpkru,
+        Insn::Xrstor { .. } => SeqKind::Xrstor,
+        _ => return None,
+    };
+    Some(Found {
+        at: rip + u64::from(skip),
+        len: len - skip,
+        kind,
+    })
 }
 
 /// May the thread be open outside trusted text after this instruction without an escape?
 pub(crate) fn is_free(insn: &Insn, thread: &Thread) -> bool
     ensures { result ≡ is_free insn.now thread.now }
 {
-    let _ = thread;
-    matches!(insn, Insn::Wrpkru)
+    match insn {
+        Insn::Wrpkru => true,
+        Insn::Xrstor { .. } => asks_pkru(thread),
+        _ => false,
+    }
 }

@@ -1,12 +1,13 @@
--- The check behind a sequence that writes PKRU: it ends the program unless PKRU was closed. ERIM
--- (USENIX Security 2019), section 3; SDM volume 2, CMP, Jcc, MOV and SYSCALL; Linux on x86-64,
--- exit_group.
+-- The check behind a sequence that writes PKRU: behind WRPKRU it ends the program unless PKRU was
+-- closed, behind XRSTOR unless PKRU stayed as it was, which bit 9 of EAX tells. ERIM (USENIX
+-- Security 2019), section 3; SDM volume 2, CMP, BT, Jcc, MOV and SYSCALL; Linux on x86-64,
+-- exit_group. The bytes of the check behind XRSTOR are own.
 use Rattle.std.specs.Prelude.{ℕ, List, [], ◌∷◌, ◌++◌, length, pos, false}
 use Rattle.std.specs.Int.{w32, to_le_bytes, cast_signed}
 use Rattle.erim_defs.specs.declared.found.SeqKind.{SeqKind}
-use Rattle.erim_defs.specs.declared.found.SeqKind.TheVariants.{Wrpkru}
+use Rattle.erim_defs.specs.declared.found.SeqKind.TheVariants.{Wrpkru, Xrstor}
 use Rattle.erim_defs.specs.declared.insn.Insn.{Insn}
-use Rattle.erim_defs.specs.declared.insn.Insn.TheVariants.{Alu, Mov, Jcc, Syscall}
+use Rattle.erim_defs.specs.declared.insn.Insn.TheVariants.{Alu, Bt, Mov, Jcc, Syscall}
 use Rattle.erim_defs.specs.declared.insn.AluOp.TheVariants.{Cmp}
 use Rattle.erim_defs.specs.declared.insn.Place.TheVariants.{Reg}
 use Rattle.erim_defs.specs.declared.insn.Src.TheVariants.{Imm}
@@ -27,14 +28,22 @@ pub data Position : Type 0 where
   Number : Position
   Leave : Position
 
--- cmp eax, closed; je over the rest; mov eax, 231 (exit_group); syscall. `next` is the address
--- behind the sequence.
+-- the bit of EAX by which XRSTOR is asked for PKRU
+abbrev pub pkru_bit : ℕ
+pkru_bit = 9
+
+-- cmp eax, closed; je over the rest; mov eax, 231 (exit_group); syscall. Behind XRSTOR: bt eax, 9;
+-- jae over the rest; and the same end. `next` is the address behind the sequence.
 abbrev pub check_insn : TrustValue → SeqKind → ℕ → Position → Insn
 check_insn trust Wrpkru next Compare =
     Alu Cmp W4 (Reg RAX) (Imm (cast_signed w32 (closed_value trust))) false
 check_insn trust Wrpkru next Branch = Jcc 4 (pos 7)
 check_insn trust Wrpkru next Number = Mov W4 (Reg RAX) (Imm (pos SYS_EXIT_GROUP))
 check_insn trust Wrpkru next Leave = Syscall
+check_insn trust Xrstor next Compare = Bt W4 (Reg RAX) pkru_bit
+check_insn trust Xrstor next Branch = Jcc 3 (pos 7)
+check_insn trust Xrstor next Number = Mov W4 (Reg RAX) (Imm (pos SYS_EXIT_GROUP))
+check_insn trust Xrstor next Leave = Syscall
 
 -- their bytes
 abbrev pub check_bytes : TrustValue → SeqKind → ℕ → Position → List ℕ
@@ -42,6 +51,10 @@ check_bytes trust Wrpkru next Compare = 0x3D ∷ to_le_bytes w32 (closed_value t
 check_bytes trust Wrpkru next Branch = 0x74 ∷ 0x07 ∷ []
 check_bytes trust Wrpkru next Number = 0xB8 ∷ to_le_bytes w32 SYS_EXIT_GROUP
 check_bytes trust Wrpkru next Leave = 0x0F ∷ 0x05 ∷ []
+check_bytes trust Xrstor next Compare = 0x0F ∷ 0xBA ∷ 0xE0 ∷ pkru_bit ∷ []
+check_bytes trust Xrstor next Branch = 0x73 ∷ 0x07 ∷ []
+check_bytes trust Xrstor next Number = 0xB8 ∷ to_le_bytes w32 SYS_EXIT_GROUP
+check_bytes trust Xrstor next Leave = 0x0F ∷ 0x05 ∷ []
 
 -- the bytes of the instructions before a position
 abbrev pub bytes_before : TrustValue → SeqKind → ℕ → Position → List ℕ

@@ -8,7 +8,7 @@ use Rattle.erim_defs.specs.declared.machine.Thread.{Thread}
 use Rattle.erim_defs.specs.declared.machine.Entry.{Entry}
 use Rattle.erim_defs.specs.declared.found.Found.{Found}
 use Rattle.erim_defs.specs.declared.found.SeqKind.{SeqKind}
-use Rattle.erim_defs.specs.declared.found.SeqKind.TheVariants.{Wrpkru}
+use Rattle.erim_defs.specs.declared.found.SeqKind.TheVariants.{Wrpkru, Xrstor}
 use Rattle.erim_defs.specs.declared.linux.TheConstants.{SYS_EXIT_GROUP}
 use Rattle.erim_defs.specs.declared.register.TheConstants.{RAX}
 use Rattle.erim_defs.specs.Inspection.Code.{Code}
@@ -21,7 +21,9 @@ use Rattle.erim_defs.specs.Machine.Registers.{eax, register}
 use Rattle.erim_defs.specs.Machine.State.{Setup, State, code, trust_of, is_outside}
 use Rattle.erim_defs.specs.Machine.Start.{image_byte, frames_needed}
 use Rattle.erim_defs.specs.Machine.Replay.{replay}
-use Rattle.erim_defs.specs.Inspection.Check.{closed_value, Position, Compare, Branch, Number, Leave}
+use Rattle.erim_defs.specs.Bits.{has_bit}
+use Rattle.erim_defs.specs.Inspection.Check.{closed_value, pkru_bit, Position, Compare, Branch}
+use Rattle.erim_defs.specs.Inspection.Check.{Number, Leave}
 use Rattle.erim_defs.specs.Inspection.Check.{position_start}
 use Rattle.erim_defs.specs.Inspection.Trust.{TrustValue, in_text_of}
 
@@ -38,6 +40,10 @@ PositionFact trust Wrpkru next Compare t = eax t ≢ closed_value trust
 PositionFact trust Wrpkru next Branch t = t.flags.zf ≡ false
 PositionFact trust Wrpkru next Number t = Unit {0}
 PositionFact trust Wrpkru next Leave t = register t RAX ≡ SYS_EXIT_GROUP
+PositionFact trust Xrstor next Compare t = has_bit (eax t) pkru_bit ≡ true
+PositionFact trust Xrstor next Branch t = t.flags.cf ≡ true
+PositionFact trust Xrstor next Number t = Unit {0}
+PositionFact trust Xrstor next Leave t = register t RAX ≡ SYS_EXIT_GROUP
 
 -- a thread with this origin, behind which no entry follows, stands at an instruction of its check
 pub record IsInCheck (trust : TrustValue) (c : Code) (t : Thread) : Type 0 where

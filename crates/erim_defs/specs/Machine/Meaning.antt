@@ -1,8 +1,9 @@
 -- What each kind of instruction wants. SDM volume 2, the instructions by name. Own: a failing
--- CMPXCHG leaves a register destination as it was; a branch may lead anywhere; XRSTOR isn't
--- executed so far.
-use Rattle.std.specs.Prelude.{ℕ, ◌-◌, ◌*◌, ◌/◌, ◌%◌, ◌^◌, ◌==◌, ◌&&◌, Option, Some, None}
-use Rattle.std.specs.Prelude.{if◌then◌else◌, ℤ}
+-- CMPXCHG leaves a register destination as it was; a branch may lead anywhere; of XRSTOR all but
+-- its encoding.
+use Rattle.std.specs.Prelude.{ℕ, ◌+◌, ◌-◌, ◌*◌, ◌/◌, ◌%◌, ◌^◌, ◌==◌, ◌&&◌, not, Bool, Option}
+use Rattle.std.specs.Prelude.{Some, None, if◌then◌else◌, ℤ, List, [], ◌∷◌, zero, suc, slice_index}
+use Rattle.std.specs.Prelude.{bit_or}
 use Rattle.erim_defs.specs.declared.machine.Thread.{Thread}
 use Rattle.erim_defs.specs.declared.machine.Outcome.{Outcome}
 use Rattle.erim_defs.specs.declared.insn.Insn.{Insn}
@@ -24,8 +25,10 @@ use Rattle.erim_defs.specs.declared.insn.Place.{Place}
 use Rattle.erim_defs.specs.declared.insn.Place.TheVariants.{At}
 use Rattle.erim_defs.specs.declared.insn.Src.{Src}
 use Rattle.erim_defs.specs.declared.insn.Width.{Width}
-use Rattle.erim_defs.specs.declared.insn.Width.TheVariants.{W1, W4, W8}
+use Rattle.erim_defs.specs.declared.insn.Width.TheVariants.{W1, W8}
 use Rattle.erim_defs.specs.declared.register.TheConstants.{RAX, RBP, RCX, RDX, RSP}
+use Rattle.erim_defs.specs.Bits.{has_bit}
+use Rattle.erim_defs.specs.Inspection.Check.{pkru_bit}
 use Rattle.erim_defs.specs.Machine.Alu.{alu, imul, unary, shift, bt, condition, is_negative}
 use Rattle.erim_defs.specs.Machine.Plan.{Plan, Ask, Give, Refuse, Call}
 use Rattle.erim_defs.specs.Machine.Registers.{byte_count, int_width, low_bytes, sign_extended}
@@ -199,6 +202,34 @@ unfoldable pub plan_rdpkru : ℕ → Thread → Plan
 plan_rdpkru len t = if low_half (register t RCX) == 0
     then Give (with_register (with_register (onward len t) RAX t.pkru) RDX 0) None else Refuse
 
+-- XRSTOR. XCR0 is 0x203: x87, SSE and, by bit 9, PKRU. The header of an area is its 64 bytes from
+-- 512 on: XSTATE_BV, and two numbers that have to be 0. PKRU is at 2688.
+
+-- loads n numbers of 8 bytes from an address on, one after the other
+unfoldable pub on_numbers : ℕ → ℕ → (List ℕ → Plan) → Plan
+on_numbers zero a k = k []
+on_numbers (suc n) a k = Ask (a % 2 ^ 64) 8 (λ x. on_numbers n (a + 8) (λ xs. k (x ∷ xs)))
+
+-- no component but those of XCR0, in the one form that is read
+abbrev pub is_header : List ℕ → Bool
+is_header xs = (bit_or (slice_index xs 0) 0x203 == 0x203)
+    && (slice_index xs 1 == 0) && (slice_index xs 2 == 0)
+
+-- PKRU is restored where bit 9 of EAX asks it: from the area where XSTATE_BV has it, else to 0
+abbrev pub restore_pkru : ℕ → List ℕ → ℕ → Thread → Plan
+restore_pkru area header len t =
+    if not (has_bit (eax t) pkru_bit) then Give (onward len t) None
+    else if has_bit (slice_index header 0) pkru_bit
+    then Ask ((area + 2688) % 2 ^ 64) 4 (λ x. Give (record (onward len t) { pkru = x }) None)
+    else Give (record (onward len t) { pkru = 0 }) None
+
+unfoldable pub plan_xrstor : Mem → ℕ → Thread → Plan
+plan_xrstor m len t = (let area = address m len t in
+    if area % 64 == 0
+    then on_numbers 8 (area + 512)
+    (λ header. if is_header header then restore_pkru area header len t else Refuse)
+    else Refuse)
+
 -- ---- all kinds
 
 unfoldable pub plan : Insn → ℕ → Thread → Plan
@@ -233,6 +264,6 @@ plan (Xadd w dst r lock) len t = plan_xadd w dst r len t
 plan Syscall len t = Call
 plan Wrpkru len t = plan_wrpkru len t
 plan Rdpkru len t = plan_rdpkru len t
-plan (Xrstor m) len t = Refuse
+plan (Xrstor m) len t = plan_xrstor m len t
 plan (Fence kind) len t = Give (onward len t) None
 plan Nop len t = Give (onward len t) None

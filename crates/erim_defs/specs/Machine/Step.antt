@@ -7,6 +7,7 @@ use Rattle.erim_defs.specs.declared.machine.Rights.{Rights}
 use Rattle.erim_defs.specs.declared.machine.Thread.{Thread}
 use Rattle.erim_defs.specs.declared.machine.Flags.{Flags}
 use Rattle.erim_defs.specs.declared.found.SeqKind.TheVariants.{Wrpkru as WrpkruKind}
+use Rattle.erim_defs.specs.declared.found.SeqKind.TheVariants.{Xrstor as XrstorKind}
 use Rattle.erim_defs.specs.declared.found.Found.{Found}
 use Rattle.erim_defs.specs.declared.machine.End.{End}
 use Rattle.erim_defs.specs.declared.machine.End.TheVariants.{Exit, Fault as EndFault, Refused}
@@ -14,12 +15,14 @@ use Rattle.erim_defs.specs.declared.machine.Cause.TheVariants.{Exec, Undefined a
 use Rattle.erim_defs.specs.declared.machine.Access.{Access}
 use Rattle.erim_defs.specs.declared.machine.Access.TheVariants.{Fault, Missing}
 use Rattle.erim_defs.specs.declared.insn.Insn.{Insn}
-use Rattle.erim_defs.specs.declared.insn.Insn.TheVariants.{Wrpkru}
+use Rattle.erim_defs.specs.declared.insn.Insn.TheVariants.{Wrpkru, Xrstor}
 use Rattle.erim_defs.specs.declared.insn.Decoded.{Decoded}
 use Rattle.erim_defs.specs.declared.insn.Decoded.TheVariants as decoding
 use Rattle.erim_defs.specs.declared.insn.FetchOutcome.{FetchOutcome}
 use Rattle.erim_defs.specs.declared.insn.FetchOutcome.TheVariants.{Runs, Need, Wrong}
 use Rattle.erim_defs.specs.declared.register.TheConstants.{R11, RAX, RCX}
+use Rattle.erim_defs.specs.Bits.{has_bit}
+use Rattle.erim_defs.specs.Inspection.Check.{pkru_bit}
 use Rattle.erim_defs.specs.Inspection.Code.{Code}
 use Rattle.erim_defs.specs.Machine.Pages.{asks_exec, published_rights, code_with, code_bytes}
 use Rattle.erim_defs.specs.Machine.Pages.{with_value_at}
@@ -27,7 +30,7 @@ use Rattle.erim_defs.specs.Machine.Access.{whole}
 use Rattle.erim_defs.specs.Inspection.Unsafe.{first_unsafe}
 use Rattle.erim_defs.specs.Encoding.Decoding.{decode}
 use Rattle.erim_defs.specs.Machine.Plan.{Effect, Done, Stopped, Called, effect, bytes_after_write}
-use Rattle.erim_defs.specs.Machine.Registers.{with_register, onward}
+use Rattle.erim_defs.specs.Machine.Registers.{eax, with_register, onward}
 use Rattle.erim_defs.specs.Machine.Meaning.{plan}
 use Rattle.erim_defs.specs.Machine.State.{State, code, trust_of, with_origin, is_escape}
 use Rattle.erim_defs.specs.Machine.State.{first_escape}
@@ -91,15 +94,17 @@ after_exec_fault (Some rights) x r s =
 -- the sequence that an instruction is, its bytes from the opcode on at an address
 abbrev pub sequence_at : Insn → ℕ → ℕ → Option Found
 sequence_at Wrpkru at len = Some (record { at = at; len = len; kind = WrpkruKind })
+sequence_at (Xrstor m) at len = Some (record { at = at; len = len; kind = XrstorKind })
 sequence_at other at len = None
 
 -- the sequence that an instruction at rip is; prefixes don't belong to it
 abbrev pub sequence_of : CodedInsn → ℕ → Option Found
 sequence_of i rip = sequence_at i.insn (rip + i.skip) (i.len - i.skip)
 
--- is an instruction of a thread that stands so free of escape
+-- is an instruction of a thread that stands so free of escape: it writes PKRU
 abbrev pub is_free : Insn → Thread → Bool
 is_free Wrpkru t = true
+is_free (Xrstor m) t = has_bit (eax t) pkru_bit
 is_free other t = false
 
 -- how a thread goes on

@@ -3,7 +3,7 @@ use Rattle.std.specs.Prelude.{ℕ, ◌-◌, false, List, [], ◌∷◌, ◌++◌
 use Rattle.std.specs.List.{flat_map}
 use Rattle.std.specs.Fmt.{digits, decimal}
 use Rattle.erim_defs.specs.declared.found.SeqKind.{SeqKind}
-use Rattle.erim_defs.specs.declared.found.SeqKind.TheVariants.{Wrpkru}
+use Rattle.erim_defs.specs.declared.found.SeqKind.TheVariants.{Wrpkru, Xrstor}
 use Rattle.erim_defs.specs.declared.found.Found.{Found}
 use Rattle.erim_defs.specs.declared.fault.ImageFault.{ImageFault}
 use Rattle.erim_defs.specs.declared.fault.ImageFault.TheVariants.{Short, Magic, Class, FileType}
@@ -34,6 +34,7 @@ pkru_text pkru = hex_text 8 pkru
 
 abbrev pub kind_text : SeqKind → List ℕ
 kind_text Wrpkru = codes "wrpkru"
+kind_text Xrstor = codes "xrstor"
 
 unfoldable pub unsafe_line : Found → List ℕ
 unsafe_line o = line (codes "unsafe " ++ kind_text o.kind ++ codes " at " ++ address_text o.at)

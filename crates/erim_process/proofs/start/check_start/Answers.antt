@@ -1,9 +1,7 @@
 use Rattle.std.proofs.Common.{◌≡◌, Some, None, arith}
 use Rattle.std.proofs.lemmas.Grind.{common_steps}
-use Rattle.erim_defs.specs.Inspection.Image.{image_code, image_trust}
 use Rattle.erim_defs.specs.Machine.Start.{trusted_unsafe}
-use Rattle.erim_defs.specs.Inspection.Unsafe.{first_unsafe}
-use Rattle.erim_process.proofs.StartLemmas.{image_first, trusted_first}
+use Rattle.erim_process.proofs.StartLemmas.{trusted_first}
 use Rattle.image_code.specs.Stretches.{code_in}
 use Rattle.erim_process.specs.StartFaults.{start_fault}
 use Rattle.erim_process.proofs.start.check_start.Goals as goal
@@ -29,19 +27,6 @@ returns-then-setup-needed c =
     (rw c.trust-trust.ensures at c.in_default.ensures) in
     grind (arith, common_steps)
 
-pub returns-then-is_some : goal.returns-then-is_some
-unfolding start_fault
-returns-then-is_some c =
-    let image = c.args.setup.now.image in
-    let trusted : None ≡ trusted_unsafe image =
-    trusted_first image (code_in c.in_ok-code.code) (code_in c.in_ok-text.text) None
-    c.in_ok-code.ensures.code (rw c.trust-trust.ensures at c.in_ok-text.ensures)
-    (rw c.trust-trust.ensures at c.in_default.ensures) in
-    let first : c.next_unsafe-found.result ≡ first_unsafe (image_trust image) (image_code image) =
-    image_first image (code_in c.in_ok-code.code) c.next_unsafe-found.result
-    c.in_ok-code.ensures.code (rw c.trust-trust.ensures at c.next_unsafe-found.ensures) in
-    grind (arith, common_steps)
-
 pub returns : goal.returns
 unfolding start_fault
 returns c =
@@ -50,7 +35,4 @@ returns c =
     trusted_first image (code_in c.in_ok-code.code) (code_in c.in_ok-text.text) None
     c.in_ok-code.ensures.code (rw c.trust-trust.ensures at c.in_ok-text.ensures)
     (rw c.trust-trust.ensures at c.in_default.ensures) in
-    let first : c.next_unsafe-found.result ≡ first_unsafe (image_trust image) (image_code image) =
-    image_first image (code_in c.in_ok-code.code) c.next_unsafe-found.result
-    c.in_ok-code.ensures.code (rw c.trust-trust.ensures at c.next_unsafe-found.ensures) in
     grind (arith, common_steps)

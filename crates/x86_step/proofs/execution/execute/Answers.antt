@@ -1,6 +1,5 @@
-use Rattle.std.proofs.Common.{FitsSigned, false, inl, inr, refl, rules, w32}
+use Rattle.std.proofs.Common.{FitsSigned, inl, inr, rules, w32}
 use Rattle.std.proofs.lemmas.Int.{to_z-of_z}
-use Rattle.erim_defs.specs.Machine.Plan.{Refuse}
 use Rattle.erim_defs.specs.Machine.Meaning.{plan}
 use Rattle.x86_step.proofs.ExecutesLemmas.{gives_is, gives_plan, refuses_unless}
 use Rattle.x86_step.proofs.execution.execute.Goals as goal
@@ -52,11 +51,7 @@ returns-in-Rdpkru-clause-executes g c =
 pub returns-in-Syscall-clause-executes : goal.returns-in-Syscall-clause-executes
 unfolding plan
 returns-in-Syscall-clause-executes g c =
-    elim c.in-Syscall.is [
-      | inl e ↦ absurd (c.requires.here e)
-      | inr x ↦ rw x.1 (refuses_unless g.M.Memory Refuse false c.args.thread.now c.args.thread.now
-          c.args.memory.now _ refl (λ e. refl) c.if_allowed-in-Syscall.ensures)
-    ]
+    absurd (c.requires.here c.in-Syscall.is)
 
 pub returns-in-Fence-clause-executes : goal.returns-in-Fence-clause-executes
 unfolding plan

@@ -1,6 +1,5 @@
 use Rattle.std.proofs.Common.{rules}
-use Rattle.std.proofs.Common.{Result, Err, ◌≡◌}
-use Rattle.erim_defs.specs.declared.machine.Access.{Access}
+use Rattle.std.proofs.Common.{Err, ◌≡◌}
 use Rattle.erim_defs.specs.Machine.Meaning.{plan_leave}
 use Rattle.std.proofs.Common.{◌∙◌, ap}
 use Rattle.erim_defs.specs.declared.machine.Thread.{Thread}

@@ -1,10 +1,9 @@
 use Rattle.std.proofs.Common.{rules}
-use Rattle.std.proofs.Common.{Result, Err, ◌≡◌}
-use Rattle.erim_defs.specs.declared.machine.Access.{Access}
+use Rattle.std.proofs.Common.{Err, ◌≡◌}
 use Rattle.erim_defs.specs.Machine.Meaning.{plan_pop}
 use Rattle.std.proofs.Common.{◌∙◌, ap}
 use Rattle.erim_defs.specs.declared.machine.Thread.{Thread}
-use Rattle.erim_defs.specs.declared.register.TheConstants.{RBP, RSP}
+use Rattle.erim_defs.specs.declared.register.TheConstants.{RSP}
 use Rattle.erim_defs.specs.Machine.Operands.{raised_rsp}
 use Rattle.erim_defs.specs.Machine.Registers.{register, with_register}
 use Rattle.x86_step.proofs.ExecutesLemmas.{gives_is}

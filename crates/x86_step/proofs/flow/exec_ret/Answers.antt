@@ -1,6 +1,5 @@
 use Rattle.std.proofs.Common.{rules}
-use Rattle.std.proofs.Common.{Result, Err, ◌≡◌}
-use Rattle.erim_defs.specs.declared.machine.Access.{Access}
+use Rattle.std.proofs.Common.{Err, ◌≡◌}
 use Rattle.erim_defs.specs.Machine.Meaning.{plan_ret}
 use Rattle.x86_step.proofs.ExecutesLemmas.{gives_is}
 use Rattle.x86_step.proofs.flow.exec_ret.Goals as goal

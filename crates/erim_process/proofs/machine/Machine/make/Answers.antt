@@ -1,16 +1,15 @@
-use Rattle.std.proofs.Common.{◌≡◌, ◌/◌, ap, ◌∙◌, refl, subst, sym}
+use Rattle.std.proofs.Common.{◌≡◌, ◌/◌, ap, ◌∙◌, refl}
 use Rattle.erim_defs.specs.Machine.Access.{whole}
 use Rattle.erim_defs.specs.Machine.Plan.{effect}
 use Rattle.erim_defs.specs.Machine.Meaning.{plan}
 use Rattle.erim_defs.specs.Machine.State.{State}
 use Rattle.erim_defs.specs.Machine.Step.{after_instruction, after_exec_fault, after_fetch}
 use Rattle.erim_process.specs.Machine.{machine_state}
-use Rattle.erim_process.specs.StepFacts.{Publishes}
 use Rattle.erim_process.proofs.CallLemmas.{same_machine}
 use Rattle.erim_process.proofs.machine.Machine.make.Goals as goal
 
 pub returns-in-Runs-clause-state : goal.returns-in-Runs-clause-state
-returns-in-Runs-clause-state g c = λ setup trust publishes.
+returns-in-Runs-clause-state g c = λ setup trust.
     let s : State = machine_state g.P.Memory setup c.args.self.now in
     let t = c.args.thread.now in
     let w = c.in-Runs in
@@ -27,7 +26,7 @@ returns-in-Runs-clause-state g c = λ setup trust publishes.
     ∙ ap (λ y. after_fetch y (record { number = c.args.t; thread = t }) s) w.ensures.answer
 
 pub returns-in-Need-clause-state : goal.returns-in-Need-clause-state
-returns-in-Need-clause-state g c = λ setup trust publishes.
+returns-in-Need-clause-state g c = λ setup trust.
     let s : State = machine_state g.P.Memory setup c.args.self.now in
     let t = c.args.thread.now in
     let w = c.in-Need in
@@ -36,7 +35,7 @@ returns-in-Need-clause-state g c = λ setup trust publishes.
     same_machine g.P.Memory setup c.args.self.now
     (record c.args.self.now { pages = c.fetch.new.pages }) refl
     (w.ensures.seen, w.ensures.bytes, w.ensures.frames) in
-    c.exec_fault.ensures.state setup (subst Publishes (sym same) publishes)
+    c.exec_fault.ensures.state setup trust
     ∙ ap (λ (x : State). after_exec_fault (x.rights (w.addr / 4096)) w.addr
     (record { number = c.args.t; thread = t }) x) same
     ∙ ap (λ y. after_fetch y (record { number = c.args.t; thread = t }) s) w.ensures.answer

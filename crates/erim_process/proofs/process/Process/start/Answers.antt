@@ -1,6 +1,6 @@
 use Rattle.std.proofs.Common.{arith}
 use Rattle.erim_process.specs.ProcessInvariant.{setup_of}
-use Rattle.erim_process.proofs.StartLemmas.{start_live, start_room, start_tame, start_trusted}
+use Rattle.erim_process.proofs.StartLemmas.{start_live, start_room, start_trusted}
 use Rattle.erim_process.proofs.StartLemmas.{replay_start, no_entries}
 use Rattle.erim_process.proofs.RefusedLemmas.{refused_start}
 use Rattle.erim_process.proofs.process.Process.start.Goals as goal
@@ -22,7 +22,6 @@ invariant_of-result c =
       startable = c.startable.ensures setup c.in_ok-machine.ensures.accepted
           c.in_ok-machine.ensures.octets (start_trusted setup c.in_ok-check_start.ensures)
           (start_room setup c.in_ok-check_start.ensures);
-      tame = start_tame setup c.in_ok-check_start.ensures;
       roomy = c.in_ok-machine.ensures.roomy;
       few = (let one = c.in_ok-machine.ensures.fresh.1 in omega (arith, one));
       alive = λ none. start_live setup _ c.in_ok-machine.ensures.state;

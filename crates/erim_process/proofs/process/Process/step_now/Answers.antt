@@ -4,18 +4,21 @@ use Rattle.erim_defs.specs.Machine.Step.{step}
 use Rattle.erim_process.specs.ProcessValue.{ProcessValue}
 use Rattle.erim_process.specs.ProcessInvariant.{setup_of}
 use Rattle.erim_process.specs.StepFacts.{answer}
-use Rattle.erim_process.proofs.ProcessLemmas.{state_seen, state_is, fields_run, publishes_held}
+use Rattle.erim_process.proofs.ProcessLemmas.{state_seen, state_is, fields_run, safe_held}
 use Rattle.erim_process.proofs.ProcessLemmas.{replay_goes, entries_pushed}
 use Rattle.erim_process.proofs.LiveLemmas.{step_live}
 use Rattle.erim_process.proofs.RefusedLemmas.{refused_step}
 use Rattle.erim_process.proofs.process.Process.step_now.Goals as goal
 
+pub step-requires-clause-safe : goal.step-requires-clause-safe
+step-requires-clause-safe c =
+    safe_held c.always_kept.ensures _ c.self.inside _ c.self.invariant c.trust.ensures
+
 pub invariant_of-self : goal.invariant_of-self
 invariant_of-self c =
     let p = c.self.inside in
     let held = c.self.invariant in
-    let made = c.in-Made.ensures.made (setup_of p.setup) refl (sym c.trust.ensures)
-    (publishes_held _ p held) refl in
+    let made = c.in-Made.ensures.made (setup_of p.setup) refl (sym c.trust.ensures) refl in
     let steps = c.in-Made.ensures.steps refl in
     let pushed = rw c.from.ensures at c.push.ensures.items in
     record {
@@ -30,7 +33,6 @@ invariant_of-self c =
       room = (let room = held.room in omega (arith, room, c.push.ensures.capacity));
       within = omega (arith, steps.0, steps.1);
       startable = held.startable;
-      tame = held.tame;
       roomy = c.in-Made.ensures.roomy;
       few = (let count = c.in-Made.ensures.count in let few = held.few in
           omega (arith, count, few));
@@ -47,8 +49,7 @@ pub returns-in-Made-clause-state : goal.returns-in-Made-clause-state
 returns-in-Made-clause-state c = λ _.
     let p = c.self.inside in
     let held = c.self.invariant in
-    let made = c.in-Made.ensures.made (setup_of p.setup) refl (sym c.trust.ensures)
-    (publishes_held _ p held) refl in
+    let made = c.in-Made.ensures.made (setup_of p.setup) refl (sym c.trust.ensures) refl in
     let steps = c.in-Made.ensures.steps refl in
     let pushed = rw c.from.ensures at c.push.ensures.items in
     let replayed = replay_goes _ p c.step.new.self c.args.thread c.args.worker c.push.result
@@ -61,8 +62,7 @@ pub returns-in-Made-clause-counted : goal.returns-in-Made-clause-counted
 returns-in-Made-clause-counted c = λ _.
     let p = c.self.inside in
     let held = c.self.invariant in
-    let made = c.in-Made.ensures.made (setup_of p.setup) refl (sym c.trust.ensures)
-    (publishes_held _ p held) refl in
+    let made = c.in-Made.ensures.made (setup_of p.setup) refl (sym c.trust.ensures) refl in
     let steps = c.in-Made.ensures.steps refl in
     let pushed = rw c.from.ensures at c.push.ensures.items in
     let replayed = replay_goes _ p c.step.new.self c.args.thread c.args.worker c.push.result
@@ -78,8 +78,7 @@ pub returns-in-Made-clause-run : goal.returns-in-Made-clause-run
 returns-in-Made-clause-run c =
     let p = c.self.inside in
     let held = c.self.invariant in
-    let made = c.in-Made.ensures.made (setup_of p.setup) refl (sym c.trust.ensures)
-    (publishes_held _ p held) refl in
+    let made = c.in-Made.ensures.made (setup_of p.setup) refl (sym c.trust.ensures) refl in
     let steps = c.in-Made.ensures.steps refl in
     let pushed = rw c.from.ensures at c.push.ensures.items in
     let replayed = replay_goes _ p c.step.new.self c.args.thread c.args.worker c.push.result

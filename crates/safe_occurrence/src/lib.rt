@@ -1,0 +1,13 @@
+//! Tells which sequences that write PKRU are safe in a code, and finds the unsafe ones.
+//!
+//! `is_safe` says whether an entry of the trusted part, behind WRPKRU, or the check of its kind
+//! follows a sequence, and `next_unsafe` gives the first unsafe one from a place on. They meet
+//! `is_safe` and `unsafe_at` of `erim_defs`; bytes behind the end of the code are absent, and
+//! contradict nothing.
+#![tactic(auto)]
+
+mod safe;
+mod scan;
+
+pub use safe::is_safe;
+pub use scan::next_unsafe;
