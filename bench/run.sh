@@ -1,12 +1,38 @@
 #!/bin/sh
-# Times `erim run` on a loop without end: xor eax, eax; je back. It makes all the 1,000,000 steps of a run.
-# Prints the seconds, the greatest memory in KiB and the bytes of the journal.
+# Times `erim run` on three loops without end, each of which makes all the 1,000,000 steps of a run: xor eax, eax; je back.
+# images/crc.img, which is programs/crc.c by gcc -O2 with 1,000,000 rounds. A loop that reads and writes another page of a
+# megabyte each time. And on 500 pages that are jumped through, each of which is published.
+# Prints the steps, the seconds, the greatest memory in KiB and the bytes of the journal; and the steps a second that
+# Unicorn makes of the same loops, where its library is installed.
 here=$(cd "$(dirname "$0")" && pwd) || exit 1
 work=$(mktemp -d) || exit 1
 trap 'rm -rf "$work"' EXIT
 "$here/../erim" >/dev/null # built by now
-python3 -c "import sys; sys.stdout.buffer.write(b'\x31\xc0\x74\xfc')" | python3 "$here/lay_image.py" "$work/loop" 4096
-for round in 1 2 3; do
-    /usr/bin/time -f '%e %M' -o "$work/time" "$here/../erim" run "$work/loop" "$work/journal" >"$work/out"
-    printf '%s: %s seconds/KiB, %s bytes saved\n' "$(grep steps "$work/out" | head -n 1)" "$(tail -n 1 "$work/time")" "$(wc -c <"$work/journal")"
+
+# lay NAME SIZE DATA CODE: the code as Python writes it
+lay() {
+    python3 -c "import sys; sys.stdout.buffer.write($4)" | python3 "$here/lay_image.py" "$work/$1" "$2" "$3"
+}
+lay loop 4096 0 'b"\x31\xc0\x74\xfc"'
+cp "$here/images/crc.img" "$work/crc"
+lay memory 4096 1048576 \
+    'bytes.fromhex("31c9 488b8100000001 4801c8 48898100000001 81c108100000 81e1f8ff0f00 ebe1")'
+lay pages 2048000 0 \
+    'bytes.fromhex("e9fb0f0000").ljust(4096, b"\0") * 499 + bytes.fromhex("bf00000000 b8e7000000 0f05")'
+
+unicorn=
+if cc -O2 -o "$work/unicorn" "$here/unicorn.c" -lunicorn 2>/dev/null; then
+    unicorn=$work/unicorn
+else
+    echo "skipped: Unicorn, whose library isn't there"
+fi
+for image in loop crc memory pages; do
+    for round in 1 2 3; do
+        /usr/bin/time -f '%e %M' -o "$work/time" "$here/../erim" run "$work/$image" "$work/journal" >"$work/out"
+        printf '%s: %s: %s seconds/KiB, %s bytes saved\n' "$image" "$(grep steps "$work/out" | head -n 1)" \
+            "$(tail -n 1 "$work/time")" "$(wc -c <"$work/journal")"
+    done
+    if [ -n "$unicorn" ] && [ "$image" != pages ]; then
+        "$unicorn" "$work/$image" 1000000
+    fi
 done

@@ -1,5 +1,10 @@
-// CRC-32 (ISO-HDLC) of a page of numbers, by a table that it makes first; writes the four bytes of the sum.
+// CRC-32 (ISO-HDLC) of a page of numbers, by a table that it makes first; writes the four bytes of the sum. With more
+// ROUNDS the sum of each goes into the page of the next.
 #include "system.h"
+
+#ifndef ROUNDS
+#define ROUNDS 1
+#endif
 
 static u32 table[256];
 static u64 page[512];
@@ -28,7 +33,11 @@ void _start(void) {
     for (int i = 0; i < 512; i++) {
         page[i] = next_number(&state);
     }
-    u32 check = sum_of((const u8 *)"123456789", 9), whole = sum_of((const u8 *)page, sizeof page);
+    u32 check = sum_of((const u8 *)"123456789", 9), whole = 0;
+    for (u64 round = 0; round < ROUNDS; round++) {
+        page[round % 512] += whole;
+        whole = sum_of((const u8 *)page, sizeof page);
+    }
     put(&check, 4);
     put(&whole, 4);
     leave(check == 0xCBF43926u ? 0 : 1);

@@ -12,7 +12,7 @@ use Rattle.erim_defs.specs.declared.machine.Access.{Access}
 use Rattle.erim_defs.specs.declared.machine.Access.TheVariants.{Fault}
 use Rattle.erim_defs.specs.declared.machine.Cause.TheVariants.{Unmapped}
 use Rattle.erim_defs.specs.Machine.Pages.{is_published, RightsMap, ByteMap, with_value_at, word}
-use Rattle.erim_defs.specs.Machine.Pages.{with_number}
+use Rattle.erim_defs.specs.Machine.Pages.{with_number, published_code}
 use Rattle.erim_defs.specs.Machine.Access.{Seen, whole, stop, stop_or, stop_at, stop_by}
 use Rattle.erim_defs.specs.declared.machine.Rights.{Rights}
 use Rattle.page_store.specs.Answers.{IsWidth, cons_ok, code_told, fetch_of, byte_at, HasBytes}
@@ -270,6 +270,21 @@ fetch_end rights b a i n xs all h (inr p) =
           h ∙ ap (ok_append xs) (fetch_none (whole rights) b (a + i) (n - i) (omega arith))
           ∙ ap Ok (append-nil xs))
     ]
+
+-- what a published byte is, and what it says where there is none
+pub published_some : (rights : RightsMap) (b : ByteMap) (a x : ℕ)
+    → published_code rights b a ≡ Some x → (is_published (rights (a / 4096)) ≡ true) × (x ≡ b a)
+published_some rights b a x h = elim (cases_Bool (is_published (rights (a / 4096)))) [
+  | inl t ↦ (let e : Some (b a) ≡ Some x = rw t at h in (t, cc))
+  | inr f ↦ (let e : None ≡ Some x = rw f at h in absurd cc)
+]
+
+pub published_none : (rights : RightsMap) (b : ByteMap) (a : ℕ)
+    → published_code rights b a ≡ None → is_published (rights (a / 4096)) ≡ false
+published_none rights b a h = elim (cases_Bool (is_published (rights (a / 4096)))) [
+  | inl t ↦ (let e : Some (b a) ≡ None = rw t at h in absurd cc)
+  | inr f ↦ f
+]
 
 pub find_page_low : (ps : List Page) (q : ℕ) → is_listed ps ≡ true → list_rights ps q ≢ None
     → q < 2 ^ 35

@@ -1,5 +1,6 @@
 -- Pages in a list. Own.
 use Rattle.std.specs.Prelude.{ℕ, ◌/◌, ◌%◌, ◌^◌, ◌==◌, ◌&&◌, nat_lt, Bool, true, Option, Some, None}
+use Rattle.std.specs.Prelude.{◌≡◌, ◌<◌, MatchOption, slice_index_or}
 use Rattle.std.specs.Prelude.{is_none, List, [], ◌∷◌, slice_index, length, if◌then◌else◌}
 use Rattle.erim_defs.specs.declared.machine.Rights.{Rights}
 use Rattle.erim_defs.specs.Machine.Pages.{RightsMap, ByteMap}
@@ -9,6 +10,14 @@ use Rattle.page_store.specs.declared.page_list.Page.{Page}
 abbrev pub find_page : List Page → ℕ → Option Page
 find_page [] q = None
 find_page (p ∷ ps) q = if p.number == q then Some p else find_page ps q
+
+-- the page of a number stands at a place
+abbrev pub StandsAt : List Page → ℕ → ℕ → Type 0
+StandsAt ps q i = (i < length ps) × ((d : Page) → find_page ps q ≡ Some (slice_index_or ps i d))
+
+-- the place of the page of a number, or none where no page has it
+abbrev pub IsPlaceOf : List Page → ℕ → Option ℕ → Type 0
+IsPlaceOf ps q place = MatchOption place (find_page ps q ≡ None) (StandsAt ps q)
 
 abbrev pub rights_of : Option Page → Option Rights
 rights_of None = None

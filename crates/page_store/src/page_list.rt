@@ -3,11 +3,13 @@
 ghost use Rattle.std.specs.Prelude.{refl, ◌≡◌, ◌≢◌, length, ℕ, ◌+◌, ◌/◌, ◌%◌, ◌<◌, ◌≤◌, ◌^◌, Some};
 ghost use Rattle.std.specs.Prelude.{None, true, IfOk, MatchOption, vec_len, vec_capacity};
 ghost use Rattle.std.specs.Prelude.{slice_index_or};
-ghost use Rattle.erim_defs.specs.Machine.Pages.{is_published, with_value_at, word, with_number};
+ghost use Rattle.erim_defs.specs.Machine.Pages.{published_code, with_value_at, word, with_number};
 ghost use Rattle.erim_defs.specs.Machine.Access.{whole, stop, stop_at, stop_on};
 ghost use Rattle.page_store.specs.declared.page_list.Page.{Page};
-ghost use Rattle.page_store.specs.Answers.{HasBytes};
-ghost use Rattle.page_store.specs.Listed.{is_listed, find_page, list_rights, list_bytes, nearer};
+ghost use Rattle.page_store.specs.Answers.{HasBytes, Fetches, IsWidth, fetch_of, load_of};
+ghost use Rattle.page_store.specs.Answers.{bytes_after_store, or_stop};
+ghost use Rattle.page_store.specs.Listed.{is_listed, list_rights, list_bytes, nearer};
+ghost use Rattle.page_store.specs.Listed.{IsPlaceOf, StandsAt};
 
 use crate::copy::PageCopy;
 use crate::memory::{Memory, Pages};
@@ -24,11 +26,14 @@ struct Page {
     bytes: [u8; 4096],
 }
 
-/// Pages in a vector, each looked for from its front.
+/// Pages in a vector. A page is looked for first where one was found last, by a fetch and by an
+/// access, and then from the front.
 #[derive(Drop)]
 pub struct PageList {
     pages: Vec<Page>,
     frames: u32,
+    fetch_place: usize,
+    access_place: usize,
     ghost listed: { is_listed pages.items ≡ true },
     ghost room: { vec_len pages ≤ frames },
     ghost capacity: { frames ≤ vec_capacity pages },
@@ -44,15 +49,24 @@ impl PageList {
         ensures frames { IfOk result (λ list. ⟦<PageList as Memory>⟧.frames list ≡ frames) }
     {
         let pages = Vec::with_capacity(alloc, frames as usize)?;
-        Ok(PageList { pages, frames })
+        Ok(PageList {
+            pages,
+            frames,
+            fetch_place: 0,
+            access_place: 0,
+        })
     }
 
-    // The place of a page.
-    fn find(&self, page: u64) -> Option<usize>
-        ensures { MatchOption result (find_page self.now.pages.items page ≡ None)
-            (λ i. (i < length self.now.pages.items) × ((d : Page)
-            → find_page self.now.pages.items page
-            ≡ Some (slice_index_or self.now.pages.items i d))) }
+    // Does a page stand at a place?
+    fn is_at(&self, i: usize, page: u64) -> bool
+        ensures { result ≡ true → StandsAt self.now.pages.items page i }
+    {
+        i < self.pages.len() && self.pages[i].number == page
+    }
+
+    // The place of a page, looked for from the front.
+    fn scan(&self, page: u64) -> Option<usize>
+        ensures { IsPlaceOf self.now.pages.items page result }
     {
         for (i, held) in self.pages.iter().enumerate() {
             if held.number == page {
@@ -60,6 +74,39 @@ impl PageList {
             }
         }
         None
+    }
+
+    // The place of a page.
+    fn find(&self, page: u64) -> Option<usize>
+        ensures { IsPlaceOf self.now.pages.items page result }
+    {
+        if self.is_at(self.fetch_place, page) {
+            Some(self.fetch_place)
+        } else if self.is_at(self.access_place, page) {
+            Some(self.access_place)
+        } else {
+            self.scan(page)
+        }
+    }
+
+    // Remembers where the page of an address stands, for fetches to come.
+    fn remember_fetch(&mut self, addr: u64)
+        ensures pages { self.new.pages ≡ self.old.pages }
+        ensures frames { self.new.frames ≡ self.old.frames }
+    {
+        if let Some(i) = self.find(addr / 4096) {
+            self.fetch_place = i;
+        }
+    }
+
+    // Remembers where the page of an address stands, for accesses to come.
+    fn remember_access(&mut self, addr: u64)
+        ensures pages { self.new.pages ≡ self.old.pages }
+        ensures frames { self.new.frames ≡ self.old.frames }
+    {
+        if let Some(i) = self.find(addr / 4096) {
+            self.access_place = i;
+        }
     }
 
     // Why an access to one byte stops.
@@ -108,13 +155,16 @@ impl PageList {
         }
     }
 
-    // Is the byte at an address published?
-    fn is_code(&self, addr: u64) -> bool
-        ensures { result ≡ is_published (list_rights self.now.pages.items (addr / 4096)) }
+    // The published byte at an address.
+    fn code_byte(&self, addr: u64) -> Option<u8>
+        ensures { result ≡ published_code (list_rights self.now.pages.items)
+            (list_bytes self.now.pages.items) addr }
     {
         match self.find(addr / 4096) {
-            None => false,
-            Some(i) => self.pages[i].rights.exec,
+            Some(i) if self.pages[i].rights.exec => {
+                Some(self.pages[i].bytes[(addr % 4096) as usize])
+            }
+            _ => None,
         }
     }
 
@@ -167,6 +217,57 @@ impl PageList {
             rest /= 256;
             at += 1;
             left -= 1;
+        }
+    }
+
+    // Writes the published bytes from an address on, at most 15.
+    fn code(&self, addr: u64, into: &mut [u8; 15]) -> u8
+        ensures { Fetches (fetch_of (whole (list_rights self.now.pages.items))
+            (list_bytes self.now.pages.items) addr 15) (Ok result) into.new }
+    {
+        let mut count = 0;
+        if addr < USER_END {
+            while count < 15 {
+                match self.code_byte(addr + count as u64) {
+                    Some(byte) => into[count as usize] = byte,
+                    None => return count,
+                }
+                count += 1;
+            }
+        }
+        count
+    }
+
+    // The number in `n` bytes that may be read.
+    fn read(&self, pkru: u32, addr: u64, n: u8) -> Result<u64, Access>
+        requires width { IsWidth n }
+        ensures answer { result ≡ load_of (whole (list_rights self.now.pages.items))
+            (list_bytes self.now.pages.items) pkru addr n }
+        ensures low { IfOk result (HasBytes (list_bytes self.now.pages.items) addr n) }
+    {
+        match self.stop(false, pkru, addr, n) {
+            Some(access) => Err(access),
+            None => Ok(self.number(addr, n)),
+        }
+    }
+
+    // Writes the low `n` bytes of a number to bytes that may be written.
+    fn write(&mut self, pkru: u32, addr: u64, n: u8, value: u64) -> Result<(), Access>
+        requires width { IsWidth n }
+        ensures answer { result ≡ or_stop (stop (whole (list_rights self.old.pages.items)) true pkru
+            addr n) tt }
+        ensures bytes { list_bytes self.new.pages.items
+            ≡ bytes_after_store (whole (list_rights self.old.pages.items))
+            (list_bytes self.old.pages.items) pkru addr n value }
+        ensures rights { list_rights self.new.pages.items ≡ list_rights self.old.pages.items }
+        ensures frames { self.new.frames ≡ self.old.frames }
+    {
+        match self.stop(true, pkru, addr, n) {
+            Some(access) => Err(access),
+            None => {
+                self.set_number(addr, n, value);
+                Ok(())
+            }
         }
     }
 }
@@ -225,33 +326,20 @@ impl Memory for PageList {
 
     #[tactic(auto, using(crate::proofs::NoteLemmas::no_notes))]
     fn fetch(&mut self, addr: u64, into: &mut [u8; 15]) -> Result<u8, u64> {
-        let mut count = 0;
-        if addr < USER_END {
-            while count < 15 && self.is_code(addr + count as u64) {
-                into[count as usize] = self.byte(addr + count as u64);
-                count += 1;
-            }
-        }
-        Ok(count)
+        self.remember_fetch(addr);
+        Ok(self.code(addr, into))
     }
 
     #[tactic(auto, using(crate::proofs::NoteLemmas::no_notes))]
     fn load(&mut self, pkru: u32, addr: u64, n: u8) -> Result<u64, Access> {
-        match self.stop(false, pkru, addr, n) {
-            Some(access) => Err(access),
-            None => Ok(self.number(addr, n)),
-        }
+        self.remember_access(addr);
+        self.read(pkru, addr, n)
     }
 
     #[tactic(auto, using(crate::proofs::NoteLemmas::no_notes))]
     fn store(&mut self, pkru: u32, addr: u64, n: u8, value: u64) -> Result<(), Access> {
-        match self.stop(true, pkru, addr, n) {
-            Some(access) => Err(access),
-            None => {
-                self.set_number(addr, n, value);
-                Ok(())
-            }
-        }
+        self.remember_access(addr);
+        self.write(pkru, addr, n, value)
     }
 }
 

@@ -16,9 +16,11 @@ use crate::operand::{disp_size, has_sib, operand_at};
 use erim_defs::grammar::{Fields, Lead, Row, Stop};
 use erim_defs::{Insn, Place};
 
-/// The sizes of an instruction's displacement, and of its immediate or relative offset.
+/// The sizes of what stands before an instruction's opcode, of its displacement, and of its
+/// immediate or relative offset.
 #[derive(Clone, Copy)]
 pub struct Sizes {
+    pub skip: u8,
     pub disp: u8,
     pub imm: u8,
 }
@@ -141,7 +143,7 @@ fn without_modrm_at(
     bytes: &[u8],
 ) -> Result<(Insn, Sizes, &[u8]), Stop>
     requires { IfSome row (λ r. r.imm ≤ 8) }
-    ensures { Gives (λ x. ((x.0, lead.skip, x.1.disp, x.1.imm), x.2.now)) result
+    ensures { Gives (λ x. ((x.0, x.1.skip, x.1.disp, x.1.imm), x.2.now)) result
         (without_modrm_at lead op row bytes.now) }
 {
     let Some(row) = row else {
@@ -149,6 +151,7 @@ fn without_modrm_at(
     };
     let (imm, rest) = chunk_at(bytes, row.imm, 0)?;
     let sizes = Sizes {
+        skip: lead.skip,
         disp: 0,
         imm: row.imm,
     };
@@ -169,7 +172,7 @@ fn behind_modrm_at(
     bytes: &[u8],
 ) -> Result<(Insn, Sizes, &[u8]), Stop>
     requires { IfSome row (λ r. r.imm ≤ 8) }
-    ensures { Gives (λ x. ((x.0, lead.skip, x.1.disp, x.1.imm), x.2.now)) result
+    ensures { Gives (λ x. ((x.0, x.1.skip, x.1.disp, x.1.imm), x.2.now)) result
         (behind_modrm_at lead op m row bytes.now) }
 {
     let Some(row) = row else {
@@ -177,7 +180,11 @@ fn behind_modrm_at(
     };
     let (place, disp, rest) = operand_at(lead.rex, m, row.imm, bytes)?;
     let (imm, rest) = chunk_at(rest, row.imm, 0)?;
-    let sizes = Sizes { disp, imm: row.imm };
+    let sizes = Sizes {
+        skip: lead.skip,
+        disp,
+        imm: row.imm,
+    };
     Ok((
         insn_of(row.form, fields_of(lead, op, m, place), imm),
         sizes,
@@ -188,7 +195,7 @@ fn behind_modrm_at(
 /// Behind an opcode with ModRM.
 #[tactic(auto, unfolding(erim_defs::specs::Encoding::Decoding::modrm_at))]
 fn modrm_at(lead: Lead, escape: bool, op: u8, bytes: &[u8]) -> Result<(Insn, Sizes, &[u8]), Stop>
-    ensures { Gives (λ x. ((x.0, lead.skip, x.1.disp, x.1.imm), x.2.now)) result
+    ensures { Gives (λ x. ((x.0, x.1.skip, x.1.disp, x.1.imm), x.2.now)) result
         (modrm_at lead escape op bytes.now) }
 {
     match bytes {
@@ -200,7 +207,7 @@ fn modrm_at(lead: Lead, escape: bool, op: u8, bytes: &[u8]) -> Result<(Insn, Siz
 /// Behind an opcode.
 #[tactic(auto, unfolding(erim_defs::specs::Encoding::Decoding::tail_at))]
 fn tail_at(lead: Lead, escape: bool, op: u8, bytes: &[u8]) -> Result<(Insn, Sizes, &[u8]), Stop>
-    ensures { Gives (λ x. ((x.0, lead.skip, x.1.disp, x.1.imm), x.2.now)) result
+    ensures { Gives (λ x. ((x.0, x.1.skip, x.1.disp, x.1.imm), x.2.now)) result
         (tail_at lead escape op bytes.now) }
 {
     if modrm_follows(escape, op) {
@@ -244,7 +251,7 @@ fn least_second(lead: Lead) -> Stop
 /// From the opcode on.
 #[tactic(auto, unfolding(erim_defs::specs::Encoding::Decoding::body_at))]
 pub fn body_at(lead: Lead, bytes: &[u8]) -> Result<(Insn, Sizes, &[u8]), Stop>
-    ensures { Gives (λ x. ((x.0, lead.skip, x.1.disp, x.1.imm), x.2.now)) result
+    ensures { Gives (λ x. ((x.0, x.1.skip, x.1.disp, x.1.imm), x.2.now)) result
         (body_at lead bytes.now) }
 {
     let (op, rest) = byte_at(bytes, least_body(lead))?;

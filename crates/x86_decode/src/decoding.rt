@@ -32,11 +32,11 @@ fn decode_window(bytes: &[u8]) -> Decoded
 {
     let window = window_of(bytes);
     match front_at(0, false, false, window) {
-        Ok((insn, skip, _sizes, rest)) => {
+        Ok((insn, sizes, rest)) => {
             Decoded::Insn {
                 insn,
                 len: (window.len() - rest.len()) as u8,
-                skip,
+                skip: sizes.skip,
             }
         }
         Err(Stop::Short(n)) => {

@@ -41,32 +41,28 @@ fn rex_bits(b: u8) -> Rex
 
 /// From REX on.
 #[tactic(auto, unfolding(erim_defs::specs::Encoding::Decoding::rex_at, erim_defs::specs::Encoding::Grammar::with_rex))]
-fn rex_at(lead: Lead, bytes: &[u8]) -> Result<(Insn, u8, Sizes, &[u8]), Stop>
+fn rex_at(lead: Lead, bytes: &[u8]) -> Result<(Insn, Sizes, &[u8]), Stop>
     requires { lead.skip < 200 }
-    ensures { Gives (λ x. ((x.0, x.1, x.2.disp, x.2.imm), x.3.now)) result (rex_at lead bytes.now) }
+    ensures { Gives (λ x. ((x.0, x.1.skip, x.1.disp, x.1.imm), x.2.now)) result (rex_at lead bytes.now) }
 {
     match bytes {
-        [b, rest @ ..] if is_rex(*b) => {
-            let lead = Lead {
+        [b, rest @ ..] if is_rex(*b) => body_at(
+            Lead {
                 skip: lead.skip + 1,
                 rex: rex_bits(*b),
                 ..lead
-            };
-            let (insn, sizes, rest) = body_at(lead, rest)?;
-            Ok((insn, lead.skip, sizes, rest))
-        }
-        _ => {
-            let (insn, sizes, rest) = body_at(lead, bytes)?;
-            Ok((insn, lead.skip, sizes, rest))
-        }
+            },
+            rest,
+        ),
+        _ => body_at(lead, bytes),
     }
 }
 
 /// From F3 on.
 #[tactic(auto, unfolding(erim_defs::specs::Encoding::Decoding::f3_at, erim_defs::specs::Encoding::Grammar::with_f3))]
-fn f3_at(lead: Lead, bytes: &[u8]) -> Result<(Insn, u8, Sizes, &[u8]), Stop>
+fn f3_at(lead: Lead, bytes: &[u8]) -> Result<(Insn, Sizes, &[u8]), Stop>
     requires { lead.skip < 100 }
-    ensures { Gives (λ x. ((x.0, x.1, x.2.disp, x.2.imm), x.3.now)) result (f3_at lead bytes.now) }
+    ensures { Gives (λ x. ((x.0, x.1.skip, x.1.disp, x.1.imm), x.2.now)) result (f3_at lead bytes.now) }
 {
     match bytes {
         [0xF3, rest @ ..] => rex_at(
@@ -102,17 +98,16 @@ fn prefix_lead(skip: u8, lock: bool, size_prefix: bool) -> Lead
     }
 }
 
-/// The whole instruction behind `skip` prefixes, how many bytes stand before its opcode, its sizes,
-/// and the bytes after it.
+/// The whole instruction behind `skip` prefixes, its sizes, and the bytes after it.
 #[tactic(auto, unfolding(erim_defs::specs::Encoding::Decoding::front_at))]
 pub fn front_at(
     skip: u8,
     lock: bool,
     size_prefix: bool,
     bytes: &[u8],
-) -> Result<(Insn, u8, Sizes, &[u8]), Stop>
+) -> Result<(Insn, Sizes, &[u8]), Stop>
     requires { skip + length bytes.now < 100 }
-    ensures { Gives (λ x. ((x.0, x.1, x.2.disp, x.2.imm), x.3.now)) result
+    ensures { Gives (λ x. ((x.0, x.1.skip, x.1.disp, x.1.imm), x.2.now)) result
         (front_at skip lock size_prefix bytes.now) }
 {
     match bytes {

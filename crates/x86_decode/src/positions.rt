@@ -75,7 +75,7 @@ pub fn locate(bytes: &[u8]) -> Option<Layout>
 {
     let window = window_of(bytes);
     match front_at(0, false, false, window) {
-        Ok((insn, _skip, sizes, rest)) => {
+        Ok((insn, sizes, rest)) => {
             let len = (window.len() - rest.len()) as u8;
             Some(layout_of(&insn, sizes, len))
         }

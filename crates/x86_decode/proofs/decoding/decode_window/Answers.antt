@@ -10,14 +10,14 @@ err e = Err e
 
 pub overflow_sub-result : goal.overflow_sub-result
 overflow_sub-result c = (found_ok c.args.bytes.now c.window_of-window.result.now c.in-Ok.rest.now
-    (c.in-Ok.insn, c.in-Ok.skip, c.in-Ok._sizes.disp, c.in-Ok._sizes.imm) c.window_of-window.ensures
+    (c.in-Ok.insn, c.in-Ok.sizes.skip, c.in-Ok.sizes.disp, c.in-Ok.sizes.imm) c.window_of-window.ensures
     (window_bytes c.args.bytes.now c.window_of-window.result.now c.window_of-window.ensures
     (λ i. omega (arith, c.type_inv.bytes i))) c.in-Ok.ensures).0
 
 pub returns-in-Ok : goal.returns-in-Ok
 returns-in-Ok c =
     let k = found_ok c.args.bytes.now c.window_of-window.result.now c.in-Ok.rest.now
-    (c.in-Ok.insn, c.in-Ok.skip, c.in-Ok._sizes.disp, c.in-Ok._sizes.imm)
+    (c.in-Ok.insn, c.in-Ok.sizes.skip, c.in-Ok.sizes.disp, c.in-Ok.sizes.imm)
     c.window_of-window.ensures (window_bytes c.args.bytes.now c.window_of-window.result.now
     c.window_of-window.ensures (λ i. omega (arith, c.type_inv.bytes i))) c.in-Ok.ensures in
     (k.1, k.2)

@@ -7,7 +7,7 @@ use Rattle.x86_decode.proofs.positions.locate.Goals as goal
 pub overflow_sub-len : goal.overflow_sub-len
 overflow_sub-len c =
     (read_so c.args.bytes.now c.window_of-window.result.now c.in-Ok.rest.now
-    (c.in-Ok.insn, c.in-Ok._skip, c.in-Ok.sizes.disp, c.in-Ok.sizes.imm)
+    (c.in-Ok.insn, c.in-Ok.sizes.skip, c.in-Ok.sizes.disp, c.in-Ok.sizes.imm)
     c.window_of-window.ensures
     (window_bytes c.args.bytes.now c.window_of-window.result.now c.window_of-window.ensures
     (λ i. omega (arith, c.type_inv.bytes i))) c.in-Ok.ensures).0
@@ -15,7 +15,7 @@ overflow_sub-len c =
 pub layout_of-requires : goal.layout_of-requires
 layout_of-requires c =
     (read_so c.args.bytes.now c.window_of-window.result.now c.in-Ok.rest.now
-    (c.in-Ok.insn, c.in-Ok._skip, c.in-Ok.sizes.disp, c.in-Ok.sizes.imm)
+    (c.in-Ok.insn, c.in-Ok.sizes.skip, c.in-Ok.sizes.disp, c.in-Ok.sizes.imm)
     c.window_of-window.ensures
     (window_bytes c.args.bytes.now c.window_of-window.result.now c.window_of-window.ensures
     (λ i. omega (arith, c.type_inv.bytes i))) c.in-Ok.ensures).1.room
@@ -23,14 +23,14 @@ layout_of-requires c =
 pub returns-in-Ok : goal.returns-in-Ok
 returns-in-Ok c =
     let k = (read_so c.args.bytes.now c.window_of-window.result.now c.in-Ok.rest.now
-    (c.in-Ok.insn, c.in-Ok._skip, c.in-Ok.sizes.disp, c.in-Ok.sizes.imm)
+    (c.in-Ok.insn, c.in-Ok.sizes.skip, c.in-Ok.sizes.disp, c.in-Ok.sizes.imm)
     c.window_of-window.ensures
     (window_bytes c.args.bytes.now c.window_of-window.result.now c.window_of-window.ensures
     (λ i. omega (arith, c.type_inv.bytes i))) c.in-Ok.ensures).1 in
     record {
       encoding = k.encoding;
       rest = k.rest;
-      sizes = (c.in-Ok.insn, c.in-Ok._skip, c.in-Ok.sizes.disp, c.in-Ok.sizes.imm);
+      sizes = (c.in-Ok.insn, c.in-Ok.sizes.skip, c.in-Ok.sizes.disp, c.in-Ok.sizes.imm);
       format = k.format;
       long = k.long;
       parts = k.parts;

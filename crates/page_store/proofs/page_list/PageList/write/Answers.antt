@@ -1,6 +1,6 @@
 use Rattle.std.proofs.Common.{arith, sym, ◌∙◌, true}
 use Rattle.page_store.proofs.MapLemmas.{stop_all, width_bounds}
-use Rattle.page_store.proofs.page_list.PageListMemory.store.Goals as goal
+use Rattle.page_store.proofs.page_list.PageList.write.Goals as goal
 
 pub set_number-requires-clause-low : goal.set_number-requires-clause-low
 set_number-requires-clause-low c =

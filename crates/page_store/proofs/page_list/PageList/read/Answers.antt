@@ -1,6 +1,6 @@
 use Rattle.std.proofs.Common.{arith, sym, ◌∙◌, false}
 use Rattle.page_store.proofs.MapLemmas.{stop_all, width_bounds}
-use Rattle.page_store.proofs.page_list.PageListMemory.load.Goals as goal
+use Rattle.page_store.proofs.page_list.PageList.read.Goals as goal
 
 pub number-requires-clause-low : goal.number-requires-clause-low
 number-requires-clause-low c =

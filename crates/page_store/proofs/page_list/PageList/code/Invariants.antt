@@ -3,7 +3,7 @@ use Rattle.erim_defs.specs.Machine.Access.{whole}
 use Rattle.page_store.specs.Answers.{fetch_of}
 use Rattle.page_store.specs.Listed.{list_rights, list_bytes}
 use Rattle.page_store.proofs.MapLemmas.{ok_append}
-use Rattle.page_store.proofs.page_list.PageListMemory.fetch.Given as goal
+use Rattle.page_store.proofs.page_list.PageList.code.Given as goal
 
 abbrev pub invariant-loop-count : goal.invariant-loop-count
 invariant-loop-count l = record {
