@@ -5,7 +5,7 @@ use Rattle.erim_defs.specs.declared.machine.Thread.{Thread}
 use Rattle.erim_defs.specs.Machine.Access.{opens, stop}
 use Rattle.erim_defs.specs.Machine.Pages.{bytes_of_range}
 use Rattle.erim_defs.specs.Machine.State.{State}
-use Rattle.erim_defs.specs.Machine.Calls.{Refusal, Answer, Quit, CallResult, no_change}
+use Rattle.erim_defs.specs.Machine.CallResult.{Refusal, Answer, Quit, CallResult, no_change}
 use Rattle.erim_defs.specs.Machine.Calls.{write_result, call_result}
 use Rattle.erim_defs.proofs.SmallMachine.{state_of, thread_at, caller_at}
 

@@ -1,6 +1,7 @@
 pub mod AcceptedLemmas
 pub mod ByteLemmas
 mod CallRows
+mod MapCallRows
 mod CanonicalRows
 mod CheckRows
 pub mod CodeLemmas
@@ -19,6 +20,7 @@ mod IsolationRows
 pub mod JournalLemmas
 mod JournalRows
 mod LayImageRows
+pub mod LeastLemmas
 pub mod LossLemmas
 mod MemoryRows
 mod NotationRows

@@ -8,8 +8,10 @@ pub mod Registers
 pub mod Operands
 pub mod Meaning
 pub mod State
+pub mod CallResult
+pub mod Start
+pub mod MapCalls
 pub mod Calls
 pub mod Step
-pub mod Start
 pub mod Replay
 pub mod Isolation

@@ -3,14 +3,44 @@
 /// The number of write(2).
 pub const SYS_WRITE: u64 = 1;
 
+/// The number of mmap(2).
+pub const SYS_MMAP: u64 = 9;
+
+/// The number of mprotect(2).
+pub const SYS_MPROTECT: u64 = 10;
+
+/// The number of munmap(2).
+pub const SYS_MUNMAP: u64 = 11;
+
 /// The number of exit_group(2).
 pub const SYS_EXIT_GROUP: u64 = 231;
 
-/// The file number isn't open for this (errno(3)).
+/// The number of pkey_mprotect(2).
+pub const SYS_PKEY_MPROTECT: u64 = 329;
+
+/// The number of pkey_alloc(2).
+pub const SYS_PKEY_ALLOC: u64 = 330;
+
+/// The number of pkey_free(2).
+pub const SYS_PKEY_FREE: u64 = 331;
+
+/// The operation isn't permitted (errno(3)).
+pub const EPERM: u16 = 1;
+
+/// The file number isn't open for this.
 pub const EBADF: u16 = 9;
+
+/// Something needed is in use.
+pub const EAGAIN: u16 = 11;
+
+/// There is no such page, or no room for one.
+pub const ENOMEM: u16 = 12;
 
 /// The buffer can't be accessed.
 pub const EFAULT: u16 = 14;
+
+/// An argument isn't valid.
+pub const EINVAL: u16 = 22;
 
 /// No room is left.
 pub const ENOSPC: u16 = 28;
@@ -28,3 +58,23 @@ pub const PROT_WRITE: u8 = 2;
 
 /// Pages may be executed.
 pub const PROT_EXEC: u8 = 4;
+
+/// MAP_PRIVATE and MAP_ANONYMOUS: zeros that no other process sees.
+pub const MAP_ANYWHERE: u64 = 0x22;
+
+/// The same with MAP_FIXED, at the address that is given.
+pub const MAP_AT: u64 = 0x32;
+
+/// The least address of a range that MAP_FIXED maps.
+pub const LOWEST_FIXED: u64 = 0x10000;
+
+/// The page from which on pages are mapped without MAP_FIXED.
+pub const LOWEST_FREE_PAGE: u64 = 0x10000;
+
+// ---- pkeys(7)
+
+/// How many keys there are.
+pub const KEYS: u8 = 16;
+
+/// The key of pkey_mprotect that leaves the key of pages.
+pub const ANY_KEY: u64 = 0xFFFF_FFFF;

@@ -21,5 +21,8 @@ pub const RSI: u8 = 6;
 /// The first argument of a call.
 pub const RDI: u8 = 7;
 
+/// The fourth argument of a call.
+pub const R10: u8 = 10;
+
 /// Behind SYSCALL, the flags.
 pub const R11: u8 = 11;

@@ -10,7 +10,7 @@ use Rattle.erim_defs.specs.Machine.Pages.{RightsMap, ByteMap, bytes_of_range}
 use Rattle.erim_defs.specs.Machine.Access.{Seen, stop, whole}
 use Rattle.erim_defs.specs.Machine.Registers.{register}
 use Rattle.erim_defs.specs.Machine.State.{Setup, State}
-use Rattle.erim_defs.specs.Machine.Calls.{Refusal, Answer, or_refuse, CallResult, no_change}
+use Rattle.erim_defs.specs.Machine.CallResult.{Refusal, Answer, or_refuse, CallResult, no_change}
 use Rattle.erim_defs.specs.Machine.Calls.{write_result}
 use Rattle.page_store.specs.Answers.{rights_in}
 use Rattle.page_store.specs.declared.memory.Memory.{Ghosts}

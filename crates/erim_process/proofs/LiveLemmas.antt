@@ -20,7 +20,8 @@ use Rattle.erim_defs.specs.Machine.Plan.{bytes_after_write}
 use Rattle.erim_defs.specs.Machine.Registers.{with_register}
 use Rattle.erim_defs.specs.Machine.Meaning.{plan}
 use Rattle.erim_defs.specs.Machine.State.{State, any_live, code, with_origin, trust_of}
-use Rattle.erim_defs.specs.Machine.Calls.{Refusal, Answer, Quit, CallResult, call_result}
+use Rattle.erim_defs.specs.Machine.CallResult.{Refusal, Answer, Quit, CallResult}
+use Rattle.erim_defs.specs.Machine.Calls.{call_result}
 use Rattle.erim_defs.specs.Machine.Step.{is_free, step, after_move, after_instruction, after_call}
 use Rattle.erim_defs.specs.Machine.Step.{after_fetch, sequence_of, with_new_thread, caller_after}
 use Rattle.erim_defs.specs.Machine.Step.{with_change, behind_syscall, after_verdict}

@@ -5,14 +5,15 @@ ghost use Rattle.std.specs.Prelude.{is_none, vec_capacity, IsTrue};
 ghost use Rattle.erim_defs.specs.Machine.Access.{stop, whole};
 ghost use Rattle.erim_defs.specs.Machine.Pages.{bytes_of_range};
 ghost use Rattle.erim_defs.specs.Machine.Registers.{register};
-ghost use Rattle.erim_defs.specs.Machine.Calls.{Quit, call_result};
+ghost use Rattle.erim_defs.specs.Machine.CallResult.{Quit};
+ghost use Rattle.erim_defs.specs.Machine.Calls.{call_result};
 ghost use Rattle.erim_defs.specs.Machine.Step.{flags_word, after_call, behind_syscall};
 ghost use Rattle.erim_process.specs.Machine.{Becomes, IsRoomy};
 ghost use Rattle.page_store.specs.Answers.{rights_in};
 
 use crate::machine::Machine;
 use crate::write_call::refusal;
-use erim_defs::linux::{ENOSYS, SYS_EXIT_GROUP, SYS_WRITE};
+use erim_defs::linux::{ENOSYS, SYS_EXIT_GROUP, SYS_PKEY_ALLOC, SYS_PKEY_FREE, SYS_WRITE};
 use erim_defs::register::{R11, RAX, RCX, RDI};
 use erim_defs::{End, Flags, Thread, Trust};
 use page_store::{Memory, Pages};
@@ -104,6 +105,8 @@ impl<P: Pages> Machine<P> {
         match register(new, RAX) {
             SYS_EXIT_GROUP => self.exit(trust, t, old, new),
             SYS_WRITE => self.write(trust, t, old, new),
+            SYS_PKEY_ALLOC => self.alloc_key(trust, t, old, new),
+            SYS_PKEY_FREE => self.free_key(trust, t, old, new),
             _ => self.answer(trust, t, old, new, refusal(ENOSYS)),
         }
     }

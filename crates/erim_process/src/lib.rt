@@ -11,6 +11,7 @@
 mod calls;
 mod fetch;
 mod image_pages;
+mod key_calls;
 mod machine;
 mod origin;
 mod process;

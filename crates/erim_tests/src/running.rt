@@ -80,7 +80,19 @@ xrstor [rsp - 0x1ff0] that keeps PKRU, and its check on the next page
 mov eax, 0x200 before it: PKRU is 0, and the check ends the program
 | 401000 5 1 ff3 b8000200000faeac2410e0ffff,
 402000 5 1 0 0fbae0097307b8e70000000f05 bf00000000b8e70000000f05 | - | 401ff3 0 8
-| output 0//steps 8/end exit 0/escape none/thread 0 steps 8 pkru 0x00000000/worker 0 steps 8/";
+| output 0//steps 8/end exit 0/escape none/thread 0 steps 8 pkru 0x00000000/worker 0 steps 8/;
+pkey_alloc(0, 0) takes key 2 and opens it
+| 401000 5 1 0 31ff31f6b84a0100000f05 89c7b8e70000000f05 | - | 401000 0 8
+| output 0//steps 8/end exit 2/escape none/thread 0 steps 8 pkru 0x55555544/worker 0 steps 8/;
+the fifteenth pkey_alloc answers ENOSPC
+| 401000 5 1 0 bb0f000000 31ff31f6b84a0100000f05ffcb75f1 89c7b8e70000000f05 | - | 401000 0 95
+| output 0//steps 95/end exit 228/escape none/
+thread 0 steps 95 pkru 0x00000004/worker 0 steps 95/;
+pkey_free of a key that was freed answers EINVAL
+| 401000 5 1 0 31ff31f6b84a0100000f05 bf02000000b84b0100000f05 bf02000000b84b0100000f05
+89c7b8e70000000f05 | - | 401000 0 14
+| output 0//steps 14/end exit 234/escape none/
+thread 0 steps 14 pkru 0x55555544/worker 0 steps 14/";
 
 fn check_row(rt: &impl Abort, alloc: Global, row: &str) {
     let (_what, rest) = cell(rt, row);

@@ -22,7 +22,8 @@ use Rattle.erim_defs.specs.Inspection.Unsafe.{first_unsafe}
 use Rattle.erim_defs.specs.Machine.Plan.{Effect, Done, Stopped, Called, effect}
 use Rattle.erim_defs.specs.Machine.Meaning.{plan}
 use Rattle.erim_defs.specs.Machine.State.{Setup, State, code, trust_of}
-use Rattle.erim_defs.specs.Machine.Calls.{Change, Refusal, Answer, Quit, CallResult, call_result}
+use Rattle.erim_defs.specs.Machine.CallResult.{Change, Refusal, Answer, Quit, CallResult}
+use Rattle.erim_defs.specs.Machine.Calls.{call_result}
 use Rattle.erim_defs.specs.Machine.Step.{step, after_move, after_instruction, after_call}
 use Rattle.erim_defs.specs.Machine.Step.{after_fetch, with_new_thread, caller_after, with_change}
 use Rattle.erim_defs.specs.Machine.Step.{behind_syscall, after_verdict, after_exec_fault}
@@ -38,21 +39,12 @@ use Rattle.isolation.proofs.DecoderFacts.{AllOf, Decoder}
 use Rattle.isolation.proofs.StandLemmas.{EntriesIn}
 use Rattle.isolation.proofs.MemoryLemmas.{made_kind}
 use Rattle.isolation.proofs.KeptLemmas.{some_same, OfState, IsFine, kept_later, kept_step}
+use Rattle.isolation.proofs.KeptLemmas.{fresh_ruled}
 use Rattle.isolation.proofs.CallLemmas.{all_fine}
 use Rattle.erim_defs.specs.Inspection.Trust.{in_text_of}
 use Rattle.erim_defs.proofs.AcceptedLemmas.{text_page}
 
 -- ---- the start
-
-fresh_ruled : (asked key : ℕ) → asked < 8 → key < 16 → IsRuled (unpublished_rights asked key)
-fresh_ruled asked key low few =
-    record {
-      sealed = λ f. absurd cc;
-      exec = λ f. absurd cc;
-      read = refl;
-      write = λ _. refl;
-      sound = (few, low);
-    }
 
 start_ruled : (text : Bool) (key : ℕ) (o : Option ℕ) (r : Rights)
     → (text ≡ true → (n : ℕ) → o ≡ Some n → asks_exec n ≡ true)

@@ -16,7 +16,8 @@ use Rattle.erim_defs.specs.Machine.Plan.{Plan, Give, Effect, Done, Called, effec
 use Rattle.erim_defs.specs.Machine.Registers.{register}
 use Rattle.erim_defs.specs.Machine.Meaning.{plan}
 use Rattle.erim_defs.specs.Machine.State.{State, code, with_origin, is_outside, trust_of}
-use Rattle.erim_defs.specs.Machine.Calls.{Quit, CallResult, call_result}
+use Rattle.erim_defs.specs.Machine.CallResult.{Quit, CallResult}
+use Rattle.erim_defs.specs.Machine.Calls.{call_result}
 use Rattle.erim_defs.specs.Machine.Step.{after_instruction, after_call, after_fetch, sequence_of}
 use Rattle.erim_defs.specs.Machine.Step.{behind_syscall, fetch}
 use Rattle.erim_defs.specs.Machine.Isolation.{IsInCheck, Stands, PositionFact}

@@ -1,8 +1,8 @@
 -- Each constructor of a step keeps the invariant.
-use Rattle.std.proofs.Common.{is_some, ◌≡◌, ◌≢◌, ◌<◌, ◌≤◌, ◌+◌, ◌-◌, ◌*◌, ◌/◌, ◌%◌, ◌^◌, ℕ, List, length}
+use Rattle.std.proofs.Common.{◌≡◌, ◌≢◌, ◌<◌, ◌≤◌, ◌+◌, ◌-◌, ◌*◌, ◌/◌, ◌%◌, ◌^◌, ℕ, List, length}
 use Rattle.std.proofs.Common.{Option, Some, None, Bool, true, false, cond, eqb, ltb, not, ◌&&◌}
-use Rattle.std.proofs.Common.{is_none, refl, sym, ap, subst, ◌∙◌, arith, inl, inr, eqb-true, ne_eqb}
-use Rattle.std.proofs.Common.{length-set, ltb-true, get_or-set_other}
+use Rattle.std.proofs.Common.{is_none, is_some, refl, sym, ap, subst, ◌∙◌, arith, inl, inr}
+use Rattle.std.proofs.Common.{eqb-true, ne_eqb, length-set, ltb-true, get_or-set_other}
 use Rattle.std.specs.Prelude.{slice_set, slice_get}
 use Rattle.std.proofs.lemmas.Bool.{cases_Bool, and_parts}
 use Rattle.erim_defs.specs.declared.machine.Rights.{Rights}
@@ -27,12 +27,14 @@ use Rattle.erim_defs.specs.Machine.Registers.{register, with_register, onward}
 use Rattle.erim_defs.specs.Machine.Meaning.{plan}
 use Rattle.erim_defs.specs.Machine.State.{State, code, with_origin, is_escape, is_outside}
 use Rattle.erim_defs.specs.Machine.State.{first_escape, trust_of}
-use Rattle.erim_defs.specs.Machine.Calls.{Change, Refusal, Answer, Quit, CallResult, call_result}
+use Rattle.erim_defs.specs.Machine.CallResult.{Change, Refusal, Answer, Quit, CallResult}
+use Rattle.erim_defs.specs.Machine.Calls.{call_result}
 use Rattle.erim_defs.specs.Machine.Step.{is_free, flags_word, step, after_move, after_instruction}
 use Rattle.erim_defs.specs.Machine.Step.{after_call, after_fetch, sequence_of, with_new_thread}
 use Rattle.erim_defs.specs.Machine.Step.{caller_after, with_change, behind_syscall, with_end}
 use Rattle.erim_defs.specs.Machine.Step.{after_verdict, after_exec_fault, ready_thread}
 use Rattle.erim_defs.specs.Machine.Step.{after_step_of, if_live, fetch, Runner}
+use Rattle.erim_defs.specs.Machine.Start.{unpublished_rights}
 use Rattle.erim_defs.specs.Machine.Isolation.{IsKept, IsRuled, KeepsText, Stands}
 use Rattle.erim_defs.proofs.WriteLemmas.{IsAllowed, does_allowed, sealed_same}
 use Rattle.erim_defs.proofs.LossLemmas.{Loses, unsafe_loses}
@@ -262,7 +264,19 @@ with_low s q h l a m =
     let n : a / 4096 ≢ q = λ e. absurd (omega (arith, e)) in
     rw (ne_eqb _ _ n, h.low (a / 4096) p) refl
 
-published_ruled : (r : Rights) → IsRuled r → asks_exec r.asked ≡ true → IsRuled (published_rights r)
+-- rights that follow the rules
+pub fresh_ruled : (asked key : ℕ) → asked < 8 → key < 16 → IsRuled (unpublished_rights asked key)
+fresh_ruled asked key low few =
+    record {
+      sealed = λ f. absurd cc;
+      exec = λ f. absurd cc;
+      read = refl;
+      write = λ _. refl;
+      sound = (few, low);
+    }
+
+pub published_ruled : (r : Rights) → IsRuled r → asks_exec r.asked ≡ true
+    → IsRuled (published_rights r)
 published_ruled r h a = record {
   sealed = λ _. refl;
   exec = λ _. a;

@@ -7,6 +7,8 @@ pub mod StandLemmas
 pub mod ThreadLemmas
 pub mod MemoryLemmas
 pub mod KeptLemmas
+pub mod AnswerLemmas
+pub mod MapCallLemmas
 pub mod CallLemmas
 pub mod AlwaysLemmas
 pub mod AlwaysKept

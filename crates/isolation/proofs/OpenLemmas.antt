@@ -23,7 +23,8 @@ use Rattle.erim_defs.specs.Machine.Plan.{Effect, Done, Stopped, Called, effect}
 use Rattle.erim_defs.specs.Machine.Registers.{with_register}
 use Rattle.erim_defs.specs.Machine.Meaning.{plan}
 use Rattle.erim_defs.specs.Machine.State.{State, code, with_origin, trust_of}
-use Rattle.erim_defs.specs.Machine.Calls.{Change, Refusal, Answer, Quit, CallResult, call_result}
+use Rattle.erim_defs.specs.Machine.CallResult.{Change, Refusal, Answer, Quit, CallResult}
+use Rattle.erim_defs.specs.Machine.Calls.{call_result}
 use Rattle.erim_defs.specs.Machine.Step.{is_free, after_move, after_instruction, after_call}
 use Rattle.erim_defs.specs.Machine.Step.{after_fetch, sequence_of, with_new_thread, caller_after}
 use Rattle.erim_defs.specs.Machine.Step.{with_change, behind_syscall, after_verdict}

@@ -25,7 +25,8 @@ use Rattle.erim_defs.specs.Inspection.Image.{image_trust}
 use Rattle.erim_defs.specs.Machine.Plan.{Effect, Done, Stopped, Called, effect}
 use Rattle.erim_defs.specs.Machine.Meaning.{plan}
 use Rattle.erim_defs.specs.Machine.State.{State, code}
-use Rattle.erim_defs.specs.Machine.Calls.{Change, Refusal, Answer, Quit, CallResult, call_result}
+use Rattle.erim_defs.specs.Machine.CallResult.{Change, Refusal, Answer, Quit, CallResult}
+use Rattle.erim_defs.specs.Machine.Calls.{call_result}
 use Rattle.erim_defs.specs.Machine.Step.{after_move, after_instruction, after_call, after_fetch}
 use Rattle.erim_defs.specs.Machine.Step.{with_new_thread, caller_after, with_change, behind_syscall}
 use Rattle.erim_defs.specs.Machine.Step.{with_end, after_verdict, after_exec_fault, fetch, Runner}

@@ -1,13 +1,16 @@
 -- What is said of each thread: over a thread that is set or added, and over code that changes
 -- elsewhere.
-use Rattle.std.proofs.Common.{◌+◌, ◌≡◌, ◌++◌, ℕ, zero, suc, List, [], ◌∷◌, Option, Some, None, is_some, true}
-use Rattle.std.proofs.Common.{false, refl, subst, inl, inr}
+use Rattle.std.proofs.Common.{◌≡◌, ◌<◌, ◌≤◌, ◌+◌, ◌-◌, ◌/◌, ◌⊎◌, ◌++◌, ◌&&◌, ℕ, zero, suc, List}
+use Rattle.std.proofs.Common.{[], ◌∷◌, Option, Some, None, is_some, true, false, refl, sym, subst}
+use Rattle.std.proofs.Common.{◌∙◌, arith, inl, inr}
+use Rattle.std.proofs.lemmas.Bool.{and_from, or_parts, le-leb}
 use Rattle.std.specs.Prelude.{slice_set, slice_get}
 use Rattle.erim_defs.specs.declared.found.Found.{Found}
 use Rattle.erim_defs.specs.declared.machine.Thread.{Thread}
 use Rattle.erim_defs.specs.Inspection.Code.{Code}
 use Rattle.erim_defs.specs.Inspection.Occurrence.{occurrence_at}
 use Rattle.erim_defs.specs.Machine.State.{with_origin, is_outside}
+use Rattle.erim_defs.specs.Machine.MapCalls.{has_byte_on, is_pinned}
 use Rattle.erim_defs.specs.Machine.Isolation.{Each, Stands}
 use Rattle.erim_defs.proofs.OccurrenceLemmas.{Agrees, occurrence_same, occurrence_there}
 use Rattle.erim_defs.specs.Inspection.Trust.{TrustValue}
@@ -67,6 +70,30 @@ each_kept trust c d (t ∷ ts) k h =
 pub origins_same : (c d : Code) (ts : List Thread) → ((x : ℕ) → c x ≡ d x) → KeepsOrigins c d ts
 origins_same c d [] same = tt
 origins_same c d (t ∷ ts) same = (λ l o e x low high. same x, origins_same c d ts same)
+
+-- where the bytes that change are on pages that hold none of an origin
+has_origin : (t : Thread) (o : Found) (x : ℕ) → t.live ≡ true → t.origin ≡ Some o → o.at ≤ x
+    → x < o.at + o.len → (t.live && has_byte_on t.origin (x / 4096)) ≡ true
+has_origin t o x l e low high =
+    let first : o.at / 4096 ≤ x / 4096 = omega (arith, low) in
+    let last : x / 4096 ≤ (o.at + o.len - 1) / 4096 = omega (arith, high) in
+    rw (l, e) (and_from _ _ (le-leb _ _ first) (le-leb _ _ last))
+
+pub origins_unpinned : (c d : Code) (ts : List Thread)
+    → ((x : ℕ) → (c x ≡ d x) ⊎ (is_pinned ts (x / 4096) ≡ false)) → KeepsOrigins c d ts
+unfolding is_pinned
+origins_unpinned c d [] h = tt
+origins_unpinned c d (t ∷ ts) h = (
+  λ l o e x low high. elim (h x) [
+    | inl same ↦ same
+    | inr n ↦ absurd (let z : false ≡ true = sym (or_parts _ _ n).0
+        ∙ has_origin t o x l e low high in cc)
+  ],
+  origins_unpinned c d ts (λ x. elim (h x) [
+    | inl same ↦ inl same
+    | inr n ↦ inr (or_parts _ _ n).1
+  ]),
+)
 
 -- a code that only grows keeps every thread standing
 pub each_grown : (trust : TrustValue) (c d : Code) (ts : List Thread)

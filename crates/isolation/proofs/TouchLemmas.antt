@@ -3,7 +3,7 @@ use Rattle.std.proofs.Common.{◌≡◌, ◌≢◌, ◌<◌, ◌≤◌, ◌+◌,
 use Rattle.std.proofs.Common.{suc, length, Option, Some, None, Bool, true, false, cond, eqb, ltb}
 use Rattle.std.proofs.Common.{not, is_some, refl, sym, ap, subst, ◌∙◌, arith, inl, inr, eqb-true}
 use Rattle.std.proofs.Common.{eq-eqb}
-use Rattle.std.proofs.lemmas.Bool.{cases_Bool, eqb-false}
+use Rattle.std.proofs.lemmas.Bool.{cases_Bool, eqb-false, not-false}
 use Rattle.erim_defs.specs.declared.found.SeqKind.{SeqKind}
 use Rattle.erim_defs.specs.declared.found.SeqKind.TheVariants.{Wrpkru, Xrstor}
 use Rattle.erim_defs.specs.declared.machine.Rights.{Rights}
@@ -22,17 +22,28 @@ use Rattle.erim_defs.specs.Machine.Plan.{Plan, Ask, Give, Refuse, Call}
 use Rattle.erim_defs.specs.Machine.Registers.{register}
 use Rattle.erim_defs.specs.Machine.Meaning.{plan}
 use Rattle.erim_defs.specs.Machine.State.{State, code, is_inside, is_outside, trust_of}
-use Rattle.erim_defs.specs.Machine.Calls.{Change, Answer, Quit, CallResult, no_change, write_result}
+use Rattle.erim_defs.specs.Machine.CallResult.{Change, Answer, Quit, no_change}
+use Rattle.erim_defs.specs.Machine.Calls.{write_result}
 use Rattle.erim_defs.specs.Machine.Calls.{call_result}
+use Rattle.erim_defs.specs.Machine.MapCalls.{has_key as page_has_key, PageRange, is_in, with_pages}
+use Rattle.erim_defs.specs.Machine.MapCalls.{with_prot, is_trusted_key, mmap_result}
+use Rattle.erim_defs.specs.Machine.MapCalls.{munmap_result, mprotect_result}
+use Rattle.erim_defs.specs.Machine.MapCalls.{pkey_mprotect_result, pkey_alloc_result}
+use Rattle.erim_defs.specs.Machine.MapCalls.{pkey_free_result}
 use Rattle.erim_defs.specs.Machine.Step.{behind_syscall, fetch}
-use Rattle.erim_defs.specs.Machine.Isolation.{Stands, PositionFact}
+use Rattle.erim_defs.specs.Machine.Isolation.{IsKept, Stands, PositionFact}
 use Rattle.isolation.specs.Laws.{Reaches, Changes, PageRights, PageBytes, MakesCall, Touches}
 use Rattle.isolation.specs.Laws.{ByInsn, ByWrite, ByCall, TouchLaw, has_key}
 use Rattle.isolation.proofs.CheckLemmas.{check_fetched}
 use Rattle.erim_defs.proofs.WriteLemmas.{stop_or_none}
 use Rattle.isolation.proofs.StandLemmas.{called_check, is_leave, place_after, place_plan, runs_same}
 use Rattle.isolation.proofs.KeptLemmas.{code_kind, entered_zero, reply_quit}
-use Rattle.isolation.proofs.CallLemmas.{refuse_answer, answer_is}
+use Rattle.isolation.proofs.AnswerLemmas.{refuse_answer, answer_is, row_answer, none_of}
+use Rattle.isolation.proofs.AnswerLemmas.{LeavesPages}
+use Rattle.isolation.proofs.MapCallLemmas.{Remaps, Protects, anew_of, anew_key, mmap_remaps}
+use Rattle.isolation.proofs.MapCallLemmas.{munmap_remaps, mprotect_protects, IsNew, IsApart}
+use Rattle.isolation.proofs.MapCallLemmas.{pkey_mprotect_protects, pkey_alloc_leaves}
+use Rattle.isolation.proofs.MapCallLemmas.{pkey_free_leaves}
 use Rattle.isolation.proofs.AlwaysLemmas.{IsGood}
 use Rattle.isolation.proofs.GrammarFacts.{Known, decoder}
 use Rattle.isolation.proofs.RunLemmas.{entered_reg, run_good, stands_now}
@@ -184,6 +195,11 @@ left_open : (s : State) (t : Thread) (q : ℕ) (c : Change) → c.rights ≡ s.r
 left_open s t q c r b (PageRights n) k = absurd (n (ap (λ (f : RightsMap). f q) r))
 left_open s t q c r b (PageBytes a e n) k = absurd (n (ap (λ (f : ByteMap). f a) b))
 
+-- the calls and the laws ask the key of a page alike
+key_same : (o : Option Rights) (k : ℕ) → page_has_key o k ≡ has_key o k
+key_same None k = refl
+key_same (Some r) k = refl
+
 -- what write reads, and that it leaves the pages
 record WriteReads (s : State) (t : Thread) (buf n : ℕ) (c : Change) : Type 0 where
   allowed : stop (whole s.rights) false t.pkru buf n ≡ None
@@ -201,36 +217,121 @@ write_reads s t fd buf n v c e =
     let d = refuse_answer (ltb 1048576 (length s.output + n)) 28 v (Answer n made) c b.1 in
     let z : made ≡ c = answer_is n v made c d.1 in
     record {
-      allowed = access_none (stop (whole s.rights) false t.pkru buf n) b.0;
+      allowed = none_of (stop (whole s.rights) false t.pkru buf n) b.0;
       rights = sym (ap (λ (x : Change). x.rights) z);
       bytes = sym (ap (λ (x : Change). x.bytes) z);
     }
-  where
-    access_none : (o : Option Access) → is_some o ≡ false → o ≡ None
-    access_none None h = refl
-    access_none (Some x) h = absurd cc
 
 write_open : (s : State) (t : Thread) (fd buf n v q : ℕ) (c : Change)
     → write_result s t fd buf n ≡ Answer v c → Opens s t q c
 write_open s t fd buf n v q c e = let w = write_reads s t fd buf n v c e in
     left_open s t q c w.rights w.bytes
 
--- a row of the table of calls, and the rest of it
-row_open : (s : State) (t : Thread) (q : ℕ) (b : Bool) (x y : CallResult) (v : ℕ) (c : Change)
-    → (x ≡ Answer v c → Opens s t q c) → (y ≡ Answer v c → Opens s t q c) → cond b x y ≡ Answer v c
-    → Opens s t q c
-row_open s t q true x y v c f g h = f h
-row_open s t q false x y v c f g h = g h
+-- a range that is mapped anew or unmapped
+pages_open : (s : State) (t : Thread) (q : ℕ) (r : PageRange) (rights : Option Rights)
+    → IsNew rights → IsApart s t r → Opens s t q (with_pages s t r rights)
+pages_open s t q r rights new apart ch k = elim (cases_Bool (is_in r q)) [
+  | inl i ↦ elim k [
+    | inl before ↦ apart.keyed q i (key_same (s.rights q) 1 ∙ before)
+    | inr after ↦ absurd (new_key rights new (rw i at after))
+  ]
+  | inr o ↦ absurd (outside ch o)
+]
+  where
+    new_key : (x : Option Rights) → IsNew x → has_key x 1 ≡ true → ⊥
+    new_key None n e = absurd cc
+    new_key (Some x) n e =
+        let z : x.key ≡ 1 = eqb-true _ _ e in
+        let w : x.key ≡ 0 = (n x refl).plain in
+        omega (arith, z, w)
 
--- a row a call: exit_group, write
-reply_open : (s : State) (v q number : ℕ) (t : Thread) (c : Change)
+    outside : Changes s (with_pages s t r rights) q → is_in r q ≡ false → ⊥
+    outside (PageRights n) o = n (rw o refl)
+    outside (PageBytes a e n) o =
+        n (let p : is_in r (a / 4096) ≡ false = rw e o in rw p refl)
+
+remaps_open : (s : State) (t : Thread) (q : ℕ) (c : Change) → Remaps s t c → Opens s t q c
+remaps_open s t q c m = subst (Opens s t q) m.is
+    (pages_open s t q m.range m.rights m.new m.apart)
+
+mmap_open : (s : State) (t : Thread) (addr len prot flags v q : ℕ) (c : Change) → IsKept s
+    → mmap_result s t addr len prot flags ≡ Answer v c → Opens s t q c
+mmap_open s t addr len prot flags v q c h e =
+    remaps_open s t q c (mmap_remaps s t addr len prot flags v c h e)
+
+munmap_open : (s : State) (t : Thread) (addr len v q : ℕ) (c : Change)
+    → munmap_result s t addr len ≡ Answer v c → Opens s t q c
+munmap_open s t addr len v q c e = remaps_open s t q c (munmap_remaps s t addr len v c e)
+
+-- a page that is asked anew has its key or one that the caller may give
+anew_open : (s : State) (t : Thread) (prot : ℕ) (key : Option ℕ) (o : Option Rights)
+    → is_trusted_key s t key ≡ false → (has_key o 1 ≡ true → opens t.pkru 1 ≡ true)
+    → has_key (anew_of prot key o) 1 ≡ true → opens t.pkru 1 ≡ true
+anew_open s t prot key None p before after = absurd cc
+anew_open s t prot None (Some r) p before after =
+    before (ap (λ k. eqb k 1) (sym (anew_key prot r.key r)) ∙ after)
+anew_open s t prot (Some j) (Some r) p before after =
+    let one : eqb j 1 ≡ true = ap (λ k. eqb k 1) (sym (anew_key prot j r)) ∙ after in
+    not-false (opens t.pkru 1) (rw one at p)
+
+prot_open : (s : State) (t : Thread) (q : ℕ) (r : PageRange) (prot : ℕ) (key : Option ℕ)
+    → is_trusted_key s t key ≡ false → IsApart s t r → Opens s t q (with_prot s t r prot key)
+prot_open s t q r prot key plain apart ch k = elim (cases_Bool (is_in r q)) [
+  | inl i ↦ elim k [
+    | inl before ↦ held i before
+    | inr after ↦ anew_open s t prot key (s.rights q) plain (held i) (rw i at after)
+  ]
+  | inr o ↦ absurd (outside ch o)
+]
+  where
+    held : is_in r q ≡ true → has_key (s.rights q) 1 ≡ true → opens t.pkru 1 ≡ true
+    held i before = apart.keyed q i (key_same (s.rights q) 1 ∙ before)
+
+    outside : Changes s (with_prot s t r prot key) q → is_in r q ≡ false → ⊥
+    outside (PageRights n) o = n (rw o refl)
+    outside (PageBytes a e n) o = n refl
+
+protects_open : (s : State) (t : Thread) (q : ℕ) (c : Change) → Protects s t c → Opens s t q c
+protects_open s t q c p = subst (Opens s t q) p.is
+    (prot_open s t q p.range p.prot p.key p.plain p.apart)
+
+mprotect_open : (s : State) (t : Thread) (addr len prot v q : ℕ) (c : Change)
+    → mprotect_result s t addr len prot ≡ Answer v c → Opens s t q c
+mprotect_open s t addr len prot v q c e =
+    protects_open s t q c (mprotect_protects s t addr len prot v c e)
+
+pkey_mprotect_open : (s : State) (t : Thread) (addr len prot key v q : ℕ) (c : Change)
+    → pkey_mprotect_result s t addr len prot key ≡ Answer v c → Opens s t q c
+pkey_mprotect_open s t addr len prot key v q c e =
+    protects_open s t q c (pkey_mprotect_protects s t addr len prot key v c e)
+
+-- pkey_alloc and pkey_free leave the pages
+leaves_open : (s : State) (t : Thread) (q : ℕ) (c : Change) → LeavesPages s t c → Opens s t q c
+leaves_open s t q c l = left_open s t q c l.rights l.bytes
+
+pkey_alloc_open : (s : State) (t : Thread) (flags bits v q : ℕ) (c : Change) → IsKept s
+    → pkey_alloc_result s t flags bits ≡ Answer v c → Opens s t q c
+pkey_alloc_open s t flags bits v q c h e =
+    leaves_open s t q c (pkey_alloc_leaves s t flags bits v c h e)
+
+pkey_free_open : (s : State) (t : Thread) (key v q : ℕ) (c : Change) → IsKept s
+    → pkey_free_result s t key ≡ Answer v c → Opens s t q c
+pkey_free_open s t key v q c h e = leaves_open s t q c (pkey_free_leaves s t key v c h e)
+
+-- a row a call
+reply_open : (s : State) (v q number : ℕ) (t : Thread) (c : Change) → IsKept s
     → call_result s number t ≡ Answer v c → Opens s t q c
 unfolding call_result
-reply_open s v q number t c e =
-    row_open s t q (eqb (register t 0) 231) _ _ v c (λ k. absurd cc)
-    (row_open s t q (eqb (register t 0) 1) _ _ v c
+reply_open s v q number t c h e =
+    row_answer (Opens s t q c) (eqb (register t 0) 231) _ _ v c
+    (λ k. absurd cc)
+    (row_answer (Opens s t q c) (eqb (register t 0) 1) _ _ v c
     (write_open s t (register t 7) (register t 6) (register t 2) v q c)
-    (λ k. absurd cc)) e
+    (row_answer (Opens s t q c) (eqb (register t 0) 330) _ _ v c
+    (pkey_alloc_open s t (register t 7) (register t 6) v q c h)
+    (row_answer (Opens s t q c) (eqb (register t 0) 331) _ _ v c
+    (pkey_free_open s t (register t 7) v q c h)
+    (λ k. absurd cc)))) e
 
 reply_write : (s : State) (number : ℕ) (t : Thread) → register t 0 ≡ 1
     → call_result s number t ≡ write_result s t (register t 7) (register t 6) (register t 2)
@@ -259,8 +360,8 @@ touch_by s t old g st (ByWrite len v x c m one l h k) =
     (register (behind_syscall len old) 2) x 1 w.allowed (omega (arith, at, l))
     (omega (arith, at, count, h)) k)
 touch_by s t old g st (ByCall len v q c m ch k) =
-    call_inside s t old len v c g st m (reply_open s v q t (behind_syscall len old) c m.answered ch
-    k)
+    call_inside s t old len v c g st m (reply_open s v q t (behind_syscall len old) c g.kept
+    m.answered ch k)
 
 pub touch_law : TouchLaw
 touch_law s t old r e touch = touch_by s t old (run_good s t old r) (stands_now s t old r e) touch

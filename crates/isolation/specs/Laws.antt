@@ -21,7 +21,8 @@ use Rattle.erim_defs.specs.Machine.Registers.{register}
 use Rattle.erim_defs.specs.Machine.Meaning.{plan}
 use Rattle.erim_defs.specs.Machine.State.{Setup, State, code, is_inside, is_outside, trust_of}
 use Rattle.erim_defs.specs.Machine.State.{is_open}
-use Rattle.erim_defs.specs.Machine.Calls.{Change, Answer, call_result}
+use Rattle.erim_defs.specs.Machine.CallResult.{Change, Answer}
+use Rattle.erim_defs.specs.Machine.Calls.{call_result}
 use Rattle.erim_defs.specs.Machine.Step.{step, sequence_of, behind_syscall, fetch}
 use Rattle.erim_defs.specs.Machine.Start.{frames_needed, is_keyed, first_state, trusted_unsafe}
 use Rattle.erim_defs.specs.Machine.Replay.{replay}

@@ -34,7 +34,8 @@ use Rattle.erim_defs.specs.Machine.Registers.{eax, with_register, onward}
 use Rattle.erim_defs.specs.Machine.Meaning.{plan}
 use Rattle.erim_defs.specs.Machine.State.{State, code, trust_of, with_origin, is_escape}
 use Rattle.erim_defs.specs.Machine.State.{first_escape}
-use Rattle.erim_defs.specs.Machine.Calls.{Change, CallResult, Refusal, Answer, Quit, call_result}
+use Rattle.erim_defs.specs.Machine.CallResult.{Change, CallResult, Refusal, Answer, Quit}
+use Rattle.erim_defs.specs.Machine.Calls.{call_result}
 
 -- ---- fetch: what the published bytes from an address on begin with, at most 15 of them
 

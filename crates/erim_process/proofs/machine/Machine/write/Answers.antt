@@ -2,7 +2,7 @@ use Rattle.std.proofs.Common.{arith, ◌≡◌, ◌++◌, length, false, None, v
 use Rattle.std.proofs.Common.{refl}
 use Rattle.erim_defs.specs.Machine.Pages.{bytes_of_range}
 use Rattle.erim_defs.specs.Machine.State.{State}
-use Rattle.erim_defs.specs.Machine.Calls.{CallResult}
+use Rattle.erim_defs.specs.Machine.CallResult.{CallResult}
 use Rattle.erim_defs.specs.Machine.Registers.{register, with_register}
 use Rattle.erim_defs.specs.Machine.Step.{after_move, after_call}
 use Rattle.page_store.specs.Answers.{rights_in}

@@ -1,0 +1,38 @@
+-- What comes of a system call. Linux: a refusal is the negated error number.
+use Rattle.std.specs.Prelude.{ℕ, Option, None, List, Bool, if◌then◌else◌}
+use Rattle.erim_defs.specs.declared.machine.Thread.{Thread}
+use Rattle.erim_defs.specs.Machine.Pages.{RightsMap, ByteMap}
+use Rattle.erim_defs.specs.Machine.State.{State}
+
+-- what a call that isn't refused may change
+pub record Change : Type 0 where
+  pub rights : RightsMap
+  pub bytes : ByteMap
+  pub keys : ℕ → Bool
+  pub output : List ℕ
+  -- the caller's PKRU
+  pub pkru : ℕ
+  -- a new thread
+  pub made : Option Thread
+
+-- a refusal with its error number, an answer with its change, the end of the process with its
+-- status
+pub data CallResult : Type 0 where
+  Refusal : ℕ → CallResult
+  Answer : ℕ → Change → CallResult
+  Quit : ℕ → CallResult
+
+-- s is the state before the call, t the caller as it goes on behind SYSCALL
+abbrev pub no_change : State → Thread → Change
+no_change s t = record {
+  rights = s.rights;
+  bytes = s.bytes;
+  keys = s.keys;
+  output = s.output;
+  pkru = t.pkru;
+  made = None;
+}
+
+-- the refusals of a row, left to right
+abbrev pub or_refuse : Bool → ℕ → CallResult → CallResult
+or_refuse b e rest = if b then Refusal e else rest
