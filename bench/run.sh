@@ -1,7 +1,8 @@
 #!/bin/sh
 # Times `erim run` on three loops without end, each of which makes all the 1,000,000 steps of a run: xor eax, eax; je back.
 # images/crc.img, which is programs/crc.c by gcc -O2 with 1,000,000 rounds. A loop that reads and writes another page of a
-# megabyte each time. And on 500 pages that are jumped through, each of which is published.
+# megabyte each time. On 500 pages that are jumped through, each of which is published. And on 10,000 rounds of mapping a
+# page, writing it and unmapping it, with 1,000 pages mapped.
 # Prints the steps, the seconds, the greatest memory in KiB and the bytes of the journal; and the steps a second that
 # Unicorn makes of the same loops, where its library is installed.
 here=$(cd "$(dirname "$0")" && pwd) || exit 1
@@ -19,6 +20,9 @@ lay memory 4096 1048576 \
     'bytes.fromhex("31c9 488b8100000001 4801c8 48898100000001 81c108100000 81e1f8ff0f00 ebe1")'
 lay pages 2048000 0 \
     'bytes.fromhex("e9fb0f0000").ljust(4096, b"\0") * 499 + bytes.fromhex("bf00000000 b8e7000000 0f05")'
+lay mapping 4096 0 \
+    'bytes.fromhex("31ff be00703d00 ba03000000 41ba22000000 b809000000 0f05 bb10270000 31ff be00100000 b809000000 0f05")'\
+'+ bytes.fromhex("488918 4889c7 b80b000000 0f05 ffcb 75e1 4889c7 b8e7000000 0f05")'
 
 unicorn=
 if cc -O2 -o "$work/unicorn" "$here/unicorn.c" -lunicorn 2>/dev/null; then
@@ -26,13 +30,13 @@ if cc -O2 -o "$work/unicorn" "$here/unicorn.c" -lunicorn 2>/dev/null; then
 else
     echo "skipped: Unicorn, whose library isn't there"
 fi
-for image in loop crc memory pages; do
+for image in loop crc memory pages mapping; do
     for round in 1 2 3; do
         /usr/bin/time -f '%e %M' -o "$work/time" "$here/../erim" run "$work/$image" "$work/journal" >"$work/out"
         printf '%s: %s: %s seconds/KiB, %s bytes saved\n' "$image" "$(grep steps "$work/out" | head -n 1)" \
             "$(tail -n 1 "$work/time")" "$(wc -c <"$work/journal")"
     done
-    if [ -n "$unicorn" ] && [ "$image" != pages ]; then
+    if [ -n "$unicorn" ] && [ "$image" != pages ] && [ "$image" != mapping ]; then
         "$unicorn" "$work/$image" 1000000
     fi
 done

@@ -29,7 +29,6 @@ use Rattle.erim_defs.specs.Inspection.Image.{records_from, records_in, image_tru
 use Rattle.erim_defs.specs.Inspection.Image.{image_heaps}
 use Rattle.erim_defs.specs.Output.LayImage.{Piece, Mark, program_header, file_header, trust_note}
 use Rattle.erim_defs.specs.Machine.CallResult.{CallResult}
-use Rattle.erim_defs.specs.Machine.Registers.{register}
 use Rattle.erim_defs.specs.Machine.Calls.{write_result, call_result}
 use Rattle.erim_defs.specs.Machine.Count.{count_below}
 use Rattle.erim_defs.specs.Machine.MapCalls.{any_below, least_below, is_pinned, mmap_result}
@@ -215,19 +214,10 @@ unfoldable pub replay_by : Setup → List Entry → Option State
 unfolding step_by loaded_by steps_of replay
 replay_by setup entries = replay setup entries
 
--- what a system call gives, likewise; those on pages by their numbers, since the machine doesn't
--- serve them yet
+-- what a system call gives, likewise
 unfoldable pub call_by : State → Thread → CallResult
 unfolding small_image number_at headers_from headers loadable_segments notes_between notes
     records_from records_in image_trust opens stop bytes_of_range any_below least_below is_pinned
     write_result mmap_result munmap_result mprotect_result pkey_mprotect_result pkey_alloc_result
     pkey_free_result with_key_rights count_below call_result
-call_by s t =
-    let first = register t 7 in
-    let second = register t 6 in
-    if register t 0 == 9 then mmap_result s t first second (register t 2) (register t 10)
-    else if register t 0 == 10 then mprotect_result s t first second (register t 2)
-    else if register t 0 == 11 then munmap_result s t first second
-    else if register t 0 == 329
-    then pkey_mprotect_result s t first second (register t 2) (register t 10)
-    else call_result s 0 t
+call_by s t = call_result s 0 t

@@ -38,6 +38,13 @@ impl Trust {
         Trust { texts, entries }
     }
 
+    /// The ranges of trusted text.
+    pub fn texts(&self) -> &[Span]
+        ensures { result.now ≡ self.now.texts }
+    {
+        self.texts.as_slice()
+    }
+
     /// The PKRU of a closed thread.
     pub fn closed_value(&self) -> u32
         ensures { result ≡ closed_value self.now }

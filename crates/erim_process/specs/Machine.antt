@@ -1,5 +1,6 @@
 -- The state that a machine holds.
-use Rattle.std.specs.Prelude.{◌≡◌, ℕ, length, vec_capacity, ◌≤◌, slice_set, Bool}
+use Rattle.std.specs.Prelude.{◌≡◌, ℕ, ◌-◌, ◌^◌, length, vec_capacity, ◌≤◌, slice_set, Bool, Result}
+use Rattle.std.specs.Prelude.{Ok, Err}
 use Rattle.erim_defs.specs.declared.insn.FetchOutcome.{FetchOutcome}
 use Rattle.erim_defs.specs.declared.insn.FetchOutcome.TheVariants.{Runs, Need, Wrong}
 use Rattle.erim_defs.specs.Bits.{has_bit}
@@ -25,11 +26,12 @@ machine_state g setup m = record {
   escape = m.escape;
 }
 
--- the machine of an image with this trust becomes, as a state, what a function makes of its state
+-- the machine of an image with this trust, whose pages have the setup's frames, becomes, as a state,
+-- what a function makes of its state
 abbrev pub Becomes : {P : Type 0} → Ghosts P → TrustValue → Machine P → Machine P → (State → State)
     → Type 0
 Becomes g trust old new f =
-    (setup : Setup) → image_trust setup.image ≡ trust
+    (setup : Setup) → image_trust setup.image ≡ trust → setup.frames ≡ g.frames old.pages
     → machine_state g setup new ≡ f (machine_state g setup old)
 
 -- thread t is another from now on, and the first escape is kept
@@ -54,3 +56,8 @@ IsRoomy m = (1048576 ≤ vec_capacity m.output) × (length m.output.items ≤ 10
 abbrev pub SamePages : {P : Type 0} → Ghosts P → P → P → Type 0
 SamePages g old new = (g.seen new ≡ g.seen old) × (g.bytes new ≡ g.bytes old)
     × (g.frames new ≡ g.frames old)
+
+-- what RAX gets of a call
+abbrev pub returned : Result ℕ ℕ → ℕ
+returned (Ok v) = v
+returned (Err e) = 2 ^ 64 - e

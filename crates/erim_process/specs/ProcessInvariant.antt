@@ -29,6 +29,8 @@ pub record IsReplay (g : Ghosts PageList) (p : Inside) : Type 0 where
   pub within : p.machine.steps ≤ p.setup.budget
   pub startable : IsStartable (setup_of p.setup)
   pub roomy : IsRoomy p.machine
+  -- mapped pages and free frames are the frames that it was started with
+  pub frames : p.setup.frames ≡ g.frames p.machine.pages
   pub few : length p.machine.threads.items ≤ 16
   pub alive : IsNone p.machine.end → any_live p.machine.threads.items ≡ true
   pub refused : IfRefused (λ page. page < 2 ^ 35) p.machine.end

@@ -13,7 +13,10 @@ ghost use Rattle.page_store.specs.Answers.{rights_in};
 
 use crate::machine::Machine;
 use crate::write_call::refusal;
-use erim_defs::linux::{ENOSYS, SYS_EXIT_GROUP, SYS_PKEY_ALLOC, SYS_PKEY_FREE, SYS_WRITE};
+use erim_defs::linux::{
+    ENOSYS, SYS_EXIT_GROUP, SYS_MMAP, SYS_MPROTECT, SYS_MUNMAP, SYS_PKEY_ALLOC, SYS_PKEY_FREE,
+    SYS_PKEY_MPROTECT, SYS_WRITE,
+};
 use erim_defs::register::{R11, RAX, RCX, RDI};
 use erim_defs::{End, Flags, Thread, Trust};
 use page_store::{Memory, Pages};
@@ -83,6 +86,7 @@ impl<P: Pages> Machine<P> {
         ensures steps { self.new.steps ≡ self.old.steps }
         ensures roomy { IsRoomy self.old → IsRoomy self.new }
         ensures count { length self.new.threads.items ≡ length self.old.threads.items }
+        ensures frames { P.frames self.new.pages ≡ P.frames self.old.pages }
     {
         self.go(trust, t, old, new, None, false);
         self.end = Some(End::Exit {
@@ -101,10 +105,15 @@ impl<P: Pages> Machine<P> {
         ensures steps { self.new.steps ≡ self.old.steps }
         ensures roomy { IsRoomy self.new }
         ensures count { length self.new.threads.items ≡ length self.old.threads.items }
+        ensures frames { P.frames self.new.pages ≡ P.frames self.old.pages }
     {
         match register(new, RAX) {
-            SYS_EXIT_GROUP => self.exit(trust, t, old, new),
             SYS_WRITE => self.write(trust, t, old, new),
+            SYS_MMAP => self.mmap(trust, t, old, new),
+            SYS_MPROTECT => self.mprotect(trust, t, old, new),
+            SYS_MUNMAP => self.munmap(trust, t, old, new),
+            SYS_EXIT_GROUP => self.exit(trust, t, old, new),
+            SYS_PKEY_MPROTECT => self.pkey_mprotect(trust, t, old, new),
             SYS_PKEY_ALLOC => self.alloc_key(trust, t, old, new),
             SYS_PKEY_FREE => self.free_key(trust, t, old, new),
             _ => self.answer(trust, t, old, new, refusal(ENOSYS)),

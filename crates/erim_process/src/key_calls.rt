@@ -24,6 +24,7 @@ impl<P: Pages> Machine<P> {
         ensures steps { self.new.steps ≡ self.old.steps }
         ensures roomy { IsRoomy self.old → IsRoomy self.new }
         ensures count { length self.new.threads.items ≡ length self.old.threads.items }
+        ensures frames { P.frames self.new.pages ≡ P.frames self.old.pages }
     {
         let mut pkru = new.pkru;
         match pkey_alloc(
@@ -46,6 +47,7 @@ impl<P: Pages> Machine<P> {
         ensures steps { self.new.steps ≡ self.old.steps }
         ensures roomy { IsRoomy self.old → IsRoomy self.new }
         ensures count { length self.new.threads.items ≡ length self.old.threads.items }
+        ensures frames { P.frames self.new.pages ≡ P.frames self.old.pages }
     {
         match pkey_free(&mut self.keys, register(new, RDI)) {
             Ok(value) => self.answer(trust, t, old, new, value),

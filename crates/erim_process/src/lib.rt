@@ -14,6 +14,7 @@ mod image_pages;
 mod key_calls;
 mod machine;
 mod origin;
+mod page_calls;
 mod process;
 mod setup;
 mod start;

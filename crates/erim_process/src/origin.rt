@@ -19,6 +19,7 @@ impl<P: Pages> Machine<P> {
         ensures steps { self.new.steps ≡ self.old.steps }
         ensures roomy { IsRoomy self.old → IsRoomy self.new }
         ensures count { length self.new.threads.items ≡ length self.old.threads.items }
+        ensures frames { P.frames self.new.pages ≡ P.frames self.old.pages }
     {
         if escaped && self.escape.is_none() {
             self.escape = Some(Escape {
@@ -50,6 +51,7 @@ impl<P: Pages> Machine<P> {
         ensures steps { self.new.steps ≡ self.old.steps }
         ensures roomy { IsRoomy self.old → IsRoomy self.new }
         ensures count { length self.new.threads.items ≡ length self.old.threads.items }
+        ensures frames { P.frames self.new.pages ≡ P.frames self.old.pages }
     {
         let mut after = *new;
         set_origin(trust, executed, &mut after);

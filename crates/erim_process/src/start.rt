@@ -76,6 +76,8 @@ pub(crate) fn load_machine(alloc: Global, setup: &Setup) -> Result<Machine<PageL
         (λ machine. machine_state ⟦<PageList as Memory>⟧ (setup_of setup.now) machine
         ≡ first_state (setup_of setup.now)) }
     ensures roomy { IfOk result (λ machine. IsRoomy machine) }
+    ensures frames { IfOk result (λ machine.
+        setup.now.frames ≡ ⟦<PageList as Memory>⟧.frames machine.pages) }
     ensures fresh { IfOk result (λ machine. (machine.steps ≡ 0)
         × (length machine.threads.items ≡ 1)) }
     ensures accepted { IfOk result (λ _. IsAccepted setup.now.image) }

@@ -52,6 +52,7 @@ impl<P: Pages> Machine<P> {
         ensures steps { self.new.steps ≡ self.old.steps }
         ensures roomy { IsRoomy self.old → IsRoomy self.new }
         ensures count { length self.new.threads.items ≡ length self.old.threads.items }
+        ensures frames { P.frames self.new.pages ≡ P.frames self.old.pages }
     {
         let page = addr / 4096;
         match self.pages.rights(page) {
@@ -75,6 +76,7 @@ impl<P: Pages> Machine<P> {
         ensures steps { self.new.steps ≡ self.old.steps }
         ensures roomy { IsRoomy self.old → IsRoomy self.new }
         ensures count { length self.new.threads.items ≡ length self.old.threads.items }
+        ensures frames { P.frames self.new.pages ≡ P.frames self.old.pages }
     {
         match verdict(&self.pages, page, trust) {
             Verdict::Publish => publish(&mut self.pages, page),
@@ -101,6 +103,7 @@ impl<P: Pages> Machine<P> {
         ensures steps { self.new.steps ≡ self.old.steps }
         ensures roomy { IsRoomy self.new }
         ensures count { length self.new.threads.items ≡ length self.old.threads.items }
+        ensures frames { P.frames self.new.pages ≡ P.frames self.old.pages }
     {
         let mut new = *thread;
         match exec(insn, len, skip, trust, &mut new, &mut self.pages) {
@@ -124,6 +127,7 @@ impl<P: Pages> Machine<P> {
         ensures steps { self.new.steps ≡ self.old.steps }
         ensures roomy { IsRoomy self.new }
         ensures count { length self.new.threads.items ≡ length self.old.threads.items }
+        ensures frames { P.frames self.new.pages ≡ P.frames self.old.pages }
     {
         match fetch(&mut self.pages, thread.rip) {
             FetchOutcome::Runs { insn, len, skip } => self.run(trust, t, thread, &insn, len, skip),
@@ -141,7 +145,7 @@ impl<P: Pages> Machine<P> {
         ensures answer { (setup : Setup) → setup.budget ≡ budget
             → result ≡ answer (machine_state P.Memory setup self.old) t }
         ensures made { (setup : Setup) → setup.budget ≡ budget → image_trust setup.image ≡ trust.now
-            → result ≡ Stepped.Made → step t (machine_state P.Memory setup self.old)
+            → setup.frames ≡ P.frames self.old.pages → result ≡ Stepped.Made → step t (machine_state P.Memory setup self.old)
             ≡ Some (machine_state P.Memory setup self.new) }
         ensures there { result ≡ Stepped.Made → t < length self.old.threads.items }
         ensures steps { result ≡ Stepped.Made
@@ -149,6 +153,7 @@ impl<P: Pages> Machine<P> {
         ensures other { result ≢ Stepped.Made → self.new ≡ self.old }
         ensures roomy { IsRoomy self.new }
         ensures count { length self.new.threads.items ≡ length self.old.threads.items }
+        ensures frames { P.frames self.new.pages ≡ P.frames self.old.pages }
     {
         if self.end.is_some() {
             return Stepped::Ended;

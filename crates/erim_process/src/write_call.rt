@@ -74,6 +74,7 @@ impl<P: Pages> Machine<P> {
         ensures steps { self.new.steps ≡ self.old.steps }
         ensures roomy { IsRoomy self.old → IsRoomy self.new }
         ensures count { length self.new.threads.items ≡ length self.old.threads.items }
+        ensures frames { P.frames self.new.pages ≡ P.frames self.old.pages }
     {
         let mut after = *new;
         set_register(&mut after, RAX, value);
@@ -116,6 +117,7 @@ impl<P: Pages> Machine<P> {
         ensures steps { self.new.steps ≡ self.old.steps }
         ensures roomy { IsRoomy self.new }
         ensures count { length self.new.threads.items ≡ length self.old.threads.items }
+        ensures frames { P.frames self.new.pages ≡ P.frames self.old.pages }
     {
         if let Some(error) = self.write_error(new) {
             return self.answer(trust, t, old, new, refusal(error));

@@ -3,7 +3,7 @@
 //!
 //! They stand in a crate of their own, since a crate with tests is proved twice. `files`, `images` and
 //! `instructions` call libraries; `attacks`, `delivering`, `early_faults`, `edges`, `inspecting`,
-//! `printing` and `running` call `erim_plain` (`calling`). Rows are text (`rows`), also those that
+//! `mapping`, `printing` and `running` call `erim_plain` (`calling`). Rows are text (`rows`), also those that
 //! images are laid out from (`laying`). Each call that allocates is made at least once where it
 //! succeeds.
 #![tactic(auto)]
@@ -28,6 +28,8 @@ mod inspecting;
 mod instructions;
 #[cfg(test)]
 mod laying;
+#[cfg(test)]
+mod mapping;
 #[cfg(test)]
 mod printing;
 #[cfg(test)]

@@ -11,7 +11,8 @@ use Rattle.erim_defs.specs.Machine.Calls.{write_result, call_result}
 use Rattle.erim_defs.specs.Machine.Isolation.{IsKept}
 use Rattle.isolation.proofs.KeptLemmas.{IsFine, AllFine}
 use Rattle.isolation.proofs.AnswerLemmas.{refuse_answer, answer_is, row_answer, left_fine}
-use Rattle.isolation.proofs.MapCallLemmas.{pkey_alloc_fine, pkey_free_fine}
+use Rattle.isolation.proofs.MapCallLemmas.{mmap_fine, munmap_fine, mprotect_fine}
+use Rattle.isolation.proofs.MapCallLemmas.{pkey_mprotect_fine, pkey_alloc_fine, pkey_free_fine}
 
 -- write
 write_fine : (N : ℕ → Type 0) (s : State) (t : Thread) (fd buf n v : ℕ) (c : Change) → IsKept s
@@ -30,12 +31,20 @@ write_fine N s t fd buf n v c h e =
 pub all_fine : (N : ℕ → Type 0) → AllFine N
 unfolding call_result
 all_fine N s v number t c h e =
-    row_answer (IsFine N s t c) (eqb (register t 0) 231) _ _ v c
-    (λ k. absurd cc)
-    (row_answer (IsFine N s t c) (eqb (register t 0) 1) _ _ v c
+    row_answer (IsFine N s t c) (eqb (register t 0) 1) _ _ v c
     (write_fine N s t (register t 7) (register t 6) (register t 2) v c h)
+    (row_answer (IsFine N s t c) (eqb (register t 0) 9) _ _ v c
+    (mmap_fine N s t (register t 7) (register t 6) (register t 2) (register t 10) v c h)
+    (row_answer (IsFine N s t c) (eqb (register t 0) 10) _ _ v c
+    (mprotect_fine N s t (register t 7) (register t 6) (register t 2) v c h)
+    (row_answer (IsFine N s t c) (eqb (register t 0) 11) _ _ v c
+    (munmap_fine N s t (register t 7) (register t 6) v c h)
+    (row_answer (IsFine N s t c) (eqb (register t 0) 231) _ _ v c
+    (λ k. absurd cc)
+    (row_answer (IsFine N s t c) (eqb (register t 0) 329) _ _ v c
+    (pkey_mprotect_fine N s t (register t 7) (register t 6) (register t 2) (register t 10) v c h)
     (row_answer (IsFine N s t c) (eqb (register t 0) 330) _ _ v c
     (pkey_alloc_fine N s t (register t 7) (register t 6) v c h)
     (row_answer (IsFine N s t c) (eqb (register t 0) 331) _ _ v c
     (pkey_free_fine N s t (register t 7) v c h)
-    (λ k. absurd cc)))) e
+    (λ k. absurd cc)))))))) e

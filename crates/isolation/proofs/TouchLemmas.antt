@@ -323,15 +323,23 @@ reply_open : (s : State) (v q number : ℕ) (t : Thread) (c : Change) → IsKept
     → call_result s number t ≡ Answer v c → Opens s t q c
 unfolding call_result
 reply_open s v q number t c h e =
-    row_answer (Opens s t q c) (eqb (register t 0) 231) _ _ v c
-    (λ k. absurd cc)
-    (row_answer (Opens s t q c) (eqb (register t 0) 1) _ _ v c
+    row_answer (Opens s t q c) (eqb (register t 0) 1) _ _ v c
     (write_open s t (register t 7) (register t 6) (register t 2) v q c)
+    (row_answer (Opens s t q c) (eqb (register t 0) 9) _ _ v c
+    (mmap_open s t (register t 7) (register t 6) (register t 2) (register t 10) v q c h)
+    (row_answer (Opens s t q c) (eqb (register t 0) 10) _ _ v c
+    (mprotect_open s t (register t 7) (register t 6) (register t 2) v q c)
+    (row_answer (Opens s t q c) (eqb (register t 0) 11) _ _ v c
+    (munmap_open s t (register t 7) (register t 6) v q c)
+    (row_answer (Opens s t q c) (eqb (register t 0) 231) _ _ v c
+    (λ k. absurd cc)
+    (row_answer (Opens s t q c) (eqb (register t 0) 329) _ _ v c
+    (pkey_mprotect_open s t (register t 7) (register t 6) (register t 2) (register t 10) v q c)
     (row_answer (Opens s t q c) (eqb (register t 0) 330) _ _ v c
     (pkey_alloc_open s t (register t 7) (register t 6) v q c h)
     (row_answer (Opens s t q c) (eqb (register t 0) 331) _ _ v c
     (pkey_free_open s t (register t 7) v q c h)
-    (λ k. absurd cc)))) e
+    (λ k. absurd cc)))))))) e
 
 reply_write : (s : State) (number : ℕ) (t : Thread) → register t 0 ≡ 1
     → call_result s number t ≡ write_result s t (register t 7) (register t 6) (register t 2)

@@ -3,16 +3,20 @@ use Rattle.std.specs.Prelude.{ℕ, ◌+◌, ◌%◌, ◌^◌, ◌==◌, ◌++◌
 use Rattle.std.specs.Prelude.{false, if◌then◌else◌}
 use Rattle.erim_defs.specs.declared.machine.Thread.{Thread}
 use Rattle.erim_defs.specs.declared.linux.TheConstants.{EBADF, EFAULT, ENOSPC, ENOSYS}
-use Rattle.erim_defs.specs.declared.linux.TheConstants.{SYS_EXIT_GROUP, SYS_WRITE}
-use Rattle.erim_defs.specs.declared.linux.TheConstants.{SYS_PKEY_ALLOC, SYS_PKEY_FREE}
-use Rattle.erim_defs.specs.declared.register.TheConstants.{RAX, RDI, RDX, RSI}
+use Rattle.erim_defs.specs.declared.linux.TheConstants.{SYS_WRITE, SYS_MMAP, SYS_MPROTECT}
+use Rattle.erim_defs.specs.declared.linux.TheConstants.{SYS_MUNMAP, SYS_EXIT_GROUP}
+use Rattle.erim_defs.specs.declared.linux.TheConstants.{SYS_PKEY_MPROTECT, SYS_PKEY_ALLOC}
+use Rattle.erim_defs.specs.declared.linux.TheConstants.{SYS_PKEY_FREE}
+use Rattle.erim_defs.specs.declared.register.TheConstants.{R10, RAX, RDI, RDX, RSI}
 use Rattle.erim_defs.specs.Machine.Pages.{bytes_of_range}
 use Rattle.erim_defs.specs.Machine.Access.{stop, whole}
 use Rattle.erim_defs.specs.Machine.Registers.{register}
 use Rattle.erim_defs.specs.Machine.State.{State}
 use Rattle.erim_defs.specs.Machine.CallResult.{CallResult, Refusal, Answer, Quit, no_change}
 use Rattle.erim_defs.specs.Machine.CallResult.{or_refuse}
-use Rattle.erim_defs.specs.Machine.MapCalls.{pkey_alloc_result, pkey_free_result}
+use Rattle.erim_defs.specs.Machine.MapCalls.{mmap_result, munmap_result, mprotect_result}
+use Rattle.erim_defs.specs.Machine.MapCalls.{pkey_mprotect_result, pkey_alloc_result}
+use Rattle.erim_defs.specs.Machine.MapCalls.{pkey_free_result}
 
 -- write(fd, buf, n) to standard output; ENOSPC above 1,048,576 bytes of output
 unfoldable pub write_result : State → Thread → ℕ → ℕ → ℕ → CallResult
@@ -27,9 +31,18 @@ write_result s t fd buf n =
 -- is ENOSYS
 unfoldable pub call_result : State → ℕ → Thread → CallResult
 call_result s number t =
-    if register t RAX == SYS_EXIT_GROUP then Quit (register t RDI % 256)
-    else if register t RAX == SYS_WRITE
+    if register t RAX == SYS_WRITE
     then write_result s t (register t RDI) (register t RSI) (register t RDX)
+    else if register t RAX == SYS_MMAP
+    then mmap_result s t (register t RDI) (register t RSI) (register t RDX) (register t R10)
+    else if register t RAX == SYS_MPROTECT
+    then mprotect_result s t (register t RDI) (register t RSI) (register t RDX)
+    else if register t RAX == SYS_MUNMAP
+    then munmap_result s t (register t RDI) (register t RSI)
+    else if register t RAX == SYS_EXIT_GROUP then Quit (register t RDI % 256)
+    else if register t RAX == SYS_PKEY_MPROTECT
+    then pkey_mprotect_result s t (register t RDI) (register t RSI) (register t RDX)
+    (register t R10)
     else if register t RAX == SYS_PKEY_ALLOC
     then pkey_alloc_result s t (register t RDI) (register t RSI)
     else if register t RAX == SYS_PKEY_FREE then pkey_free_result s t (register t RDI)

@@ -6,7 +6,7 @@ use Rattle.erim_process.specs.Machine.{machine_state}
 use Rattle.erim_process.proofs.machine.Machine.exit.Goals as goal
 
 pub returns-clause-state : goal.returns-clause-state
-returns-clause-state g c = λ setup trust.
+returns-clause-state g c = λ setup trust frames.
     ap (λ n. with_end (Exit (n % 256)) (machine_state g.P.Memory setup c.go.new.self))
     c.register.ensures
-    ∙ ap (with_end (Exit (register c.args.new.now 7 % 256))) (c.go.ensures.state setup trust)
+    ∙ ap (with_end (Exit (register c.args.new.now 7 % 256))) (c.go.ensures.state setup trust frames)

@@ -16,7 +16,7 @@ refusal-requires g c = (error_small (rights_in (g.P.Memory.seen c.args.self.now.
     (length c.args.self.now.output.items) c.args.new.now c.in-Some.error c.in-Some.ensures.error).0
 
 pub returns-in-Some-clause-state : goal.returns-in-Some-clause-state
-returns-in-Some-clause-state g c = λ setup trust.
+returns-in-Some-clause-state g c = λ setup trust frames.
     let s = machine_state g.P.Memory setup c.args.self.now in
     let same = same_machine g.P.Memory setup c.args.self.now c.write_error.new.self
     c.in-Some.ensures.rest c.in-Some.ensures.pages in
@@ -24,7 +24,7 @@ returns-in-Some-clause-state g c = λ setup trust.
     let old = c.args.old.now in
     let new = c.args.new.now in
     let e = c.in-Some.error in
-    c.answer.ensures.state setup trust
+    c.answer.ensures.state setup trust (frames ∙ sym c.in-Some.ensures.pages.2)
     ∙ ap (λ (x : State). after_move
     (record {
       runner = record { number = t; thread = old };
@@ -42,7 +42,7 @@ returns-in-Some-clause-state g c = λ setup trust.
     (write_refused s new e c.in-Some.ensures.error))
 
 pub returns-clause-state : goal.returns-clause-state
-returns-clause-state g c = λ setup trust.
+returns-clause-state g c = λ setup trust frames.
     let s = machine_state g.P.Memory setup c.args.self.now in
     let t = c.args.t in
     let old = c.args.old.now in
@@ -61,6 +61,7 @@ returns-clause-state g c = λ setup trust.
       c.register-n.ensures,
     ) at c.write_out.ensures.output) in
     c.answer-2.ensures.state setup trust
+    (frames ∙ sym c.in_default.ensures.pages.2 ∙ sym c.write_out.ensures.frames)
     ∙ ap (λ (x : State). after_move
     (record {
       runner = record { number = t; thread = old };

@@ -23,6 +23,7 @@ invariant_of-result c =
           c.in_ok-machine.ensures.octets (start_trusted setup c.in_ok-check_start.ensures)
           (start_room setup c.in_ok-check_start.ensures);
       roomy = c.in_ok-machine.ensures.roomy;
+      frames = c.in_ok-machine.ensures.frames;
       few = (let one = c.in_ok-machine.ensures.fresh.1 in omega (arith, one));
       alive = λ none. start_live setup _ c.in_ok-machine.ensures.state;
       refused = refused_start setup _ c.in_ok-machine.ensures.state;

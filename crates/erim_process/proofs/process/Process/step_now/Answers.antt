@@ -18,7 +18,7 @@ pub invariant_of-self : goal.invariant_of-self
 invariant_of-self c =
     let p = c.self.inside in
     let held = c.self.invariant in
-    let made = c.in-Made.ensures.made (setup_of p.setup) refl (sym c.trust.ensures) refl in
+    let made = c.in-Made.ensures.made (setup_of p.setup) refl (sym c.trust.ensures) held.frames refl in
     let steps = c.in-Made.ensures.steps refl in
     let pushed = rw c.from.ensures at c.push.ensures.items in
     record {
@@ -34,6 +34,7 @@ invariant_of-self c =
       within = omega (arith, steps.0, steps.1);
       startable = held.startable;
       roomy = c.in-Made.ensures.roomy;
+      frames = held.frames ∙ sym c.in-Made.ensures.frames;
       few = (let count = c.in-Made.ensures.count in let few = held.few in
           omega (arith, count, few));
       alive = λ none. step_live c.args.thread _ _ made;
@@ -49,7 +50,7 @@ pub returns-in-Made-clause-state : goal.returns-in-Made-clause-state
 returns-in-Made-clause-state c = λ _.
     let p = c.self.inside in
     let held = c.self.invariant in
-    let made = c.in-Made.ensures.made (setup_of p.setup) refl (sym c.trust.ensures) refl in
+    let made = c.in-Made.ensures.made (setup_of p.setup) refl (sym c.trust.ensures) held.frames refl in
     let steps = c.in-Made.ensures.steps refl in
     let pushed = rw c.from.ensures at c.push.ensures.items in
     let replayed = replay_goes _ p c.step.new.self c.args.thread c.args.worker c.push.result
@@ -62,7 +63,7 @@ pub returns-in-Made-clause-counted : goal.returns-in-Made-clause-counted
 returns-in-Made-clause-counted c = λ _.
     let p = c.self.inside in
     let held = c.self.invariant in
-    let made = c.in-Made.ensures.made (setup_of p.setup) refl (sym c.trust.ensures) refl in
+    let made = c.in-Made.ensures.made (setup_of p.setup) refl (sym c.trust.ensures) held.frames refl in
     let steps = c.in-Made.ensures.steps refl in
     let pushed = rw c.from.ensures at c.push.ensures.items in
     let replayed = replay_goes _ p c.step.new.self c.args.thread c.args.worker c.push.result
@@ -78,7 +79,7 @@ pub returns-in-Made-clause-run : goal.returns-in-Made-clause-run
 returns-in-Made-clause-run c =
     let p = c.self.inside in
     let held = c.self.invariant in
-    let made = c.in-Made.ensures.made (setup_of p.setup) refl (sym c.trust.ensures) refl in
+    let made = c.in-Made.ensures.made (setup_of p.setup) refl (sym c.trust.ensures) held.frames refl in
     let steps = c.in-Made.ensures.steps refl in
     let pushed = rw c.from.ensures at c.push.ensures.items in
     let replayed = replay_goes _ p c.step.new.self c.args.thread c.args.worker c.push.result

@@ -1,0 +1,91 @@
+//! What a call may not touch: trusted text, pages of the trusted key for a closed caller, and pages
+//! that a thread's origin pins.
+
+ghost use Rattle.std.specs.Prelude.{◌≡◌};
+ghost use Rattle.std.specs.List.{list_any};
+ghost use Rattle.erim_defs.specs.Machine.MapCalls.{any_page, has_byte_on, has_key};
+ghost use Rattle.map_calls.specs.Guards.{meets_span, protects, pins};
+ghost use Rattle.map_calls.specs.Ranges.{pages_of};
+ghost use Rattle.page_store.specs.Answers.{rights_in};
+
+use crate::range::PageSpan;
+use crate::walk::next_in;
+use erim_defs::page::{PAGE_SIZE, TRUSTED_KEY};
+use erim_defs::{Found, Span, Thread, Trust};
+use page_store::{Memory, Pages};
+use thread_state::opens;
+
+/// Is the first byte of a page of the range in a range of addresses?
+fn meets_span(range: &PageSpan, span: &Span) -> bool
+    ensures { result ≡ meets_span (pages_of range.now) span.now }
+{
+    let end = span.start.saturating_add(span.length);
+    range.meets(span.start.div_ceil(PAGE_SIZE), end.div_ceil(PAGE_SIZE))
+}
+
+/// Has the range a page of trusted text?
+fn has_text(trust: &Trust, range: &PageSpan) -> bool
+    ensures { result ≡ list_any (meets_span (pages_of range.now)) trust.now.texts }
+{
+    trust.texts().iter().any(|text| meets_span(range, text))
+}
+
+/// Has a page the trusted key?
+fn is_keyed<P: Pages>(pages: &P, page: u64) -> bool
+    ensures { result ≡ has_key (rights_in (P.seen pages.now) page) TRUSTED_KEY }
+{
+    match pages.rights(page) {
+        Some(rights) => rights.key == TRUSTED_KEY,
+        None => false,
+    }
+}
+
+/// Has the range a page of the trusted key?
+fn has_keyed<P: Pages>(pages: &P, range: &PageSpan) -> bool
+    ensures { result ≡ any_page (pages_of range.now)
+        (λ q. has_key (rights_in (P.seen pages.now) q) TRUSTED_KEY) }
+{
+    let mut from = range.first;
+    while let Some(page) = next_in(pages, from, range.end()) {
+        if is_keyed(pages, page) {
+            return true;
+        }
+        from = page + 1;
+    }
+    false
+}
+
+/// Is the range protected from a caller with this PKRU?
+pub(crate) fn is_protected<P: Pages>(pages: &P, trust: &Trust, pkru: u32, range: &PageSpan) -> bool
+    ensures { result ≡ protects trust.now (rights_in (P.seen pages.now)) pkru (pages_of range.now) }
+{
+    has_text(trust, range) || (!opens(pkru, TRUSTED_KEY) && has_keyed(pages, range))
+}
+
+/// Has the range a page with a byte of an origin?
+fn meets_origin(range: &PageSpan, origin: &Found) -> bool
+    ensures { result ≡ any_page (pages_of range.now) (has_byte_on (Some origin.now)) }
+{
+    let last = origin
+        .at
+        .saturating_add(u64::from(origin.len))
+        .saturating_sub(1);
+    range.meets(origin.at / PAGE_SIZE, last / PAGE_SIZE + 1)
+}
+
+/// Does a thread pin a page of the range?
+fn pins(thread: &Thread, range: &PageSpan) -> bool
+    ensures { result ≡ pins (pages_of range.now) thread.now }
+{
+    match thread.origin {
+        Some(origin) => thread.live && meets_origin(range, &origin),
+        None => false,
+    }
+}
+
+/// Is a page of the range pinned?
+pub(crate) fn has_pin(threads: &[Thread], range: &PageSpan) -> bool
+    ensures { result ≡ list_any (pins (pages_of range.now)) threads.now }
+{
+    threads.iter().any(|thread| pins(thread, range))
+}
