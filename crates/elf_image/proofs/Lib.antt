@@ -1,3 +1,4 @@
+pub mod FunctionLemmas
 pub mod ImageLemmas
 pub mod ListLemmas
 pub mod NoteLemmas

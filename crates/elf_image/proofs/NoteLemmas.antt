@@ -9,17 +9,22 @@ use Rattle.std.proofs.lemmas.Bool.{le-leb, lt-leb}
 use Rattle.erim_defs.specs.Inspection.Code.{or_else}
 use Rattle.erim_defs.specs.declared.fault.ImageFault.{ImageFault}
 use Rattle.erim_defs.specs.declared.fault.ImageFault.TheVariants.{NoteShape, NoteVersion}
-use Rattle.erim_defs.specs.Inspection.Image.{Header, Note, Record, desc_size, header_count}
+use Rattle.erim_defs.specs.Inspection.Image.{Header, Note, desc_size, header_count}
 use Rattle.erim_defs.specs.Inspection.Image.{header_note_fault, header_notes, headers, is_functions}
 use Rattle.erim_defs.specs.Inspection.Image.{is_note_shaped, is_trust, is_versioned, item_count}
 use Rattle.erim_defs.specs.Inspection.Image.{name_size, next_note, note_at, note_end, note_fault}
 use Rattle.erim_defs.specs.Inspection.Image.{note_fault_between, notes, notes_between, notes_of}
-use Rattle.erim_defs.specs.Inspection.Image.{padded_size, records_from, records_in, version_fault}
+use Rattle.erim_defs.specs.Inspection.Image.{functions_in, image_functions, is_counted}
+use Rattle.erim_defs.specs.Inspection.Image.{padded_size, records_in, version_fault}
+use Rattle.elf_image.specs.declared.functions.FunctionTable.{FunctionTable}
 use Rattle.elf_image.specs.declared.notes.NotesSeen.{NotesSeen}
 use Rattle.elf_image.specs.declared.records.RecordTable.{RecordTable}
+use Rattle.elf_image.specs.Functions.{table_functions}
+use Rattle.elf_image.specs.Records.{table_records}
 use Rattle.elf_image.specs.Table.{header_of, headers_left}
-use Rattle.elf_image.specs.Notes.{HasRecords, HasTableOf, IsReadBefore, IsReadTo, is_sound}
-use Rattle.elf_image.specs.Notes.{nothing_seen, see, see_all, seen_records, table_of}
+use Rattle.elf_image.specs.Notes.{HasFunctionsOf, HasItems, HasTableOf, IsReadBefore, IsReadTo}
+use Rattle.elf_image.specs.Notes.{functions_of, is_sound, nothing_seen, see, see_all}
+use Rattle.elf_image.specs.Notes.{seen_functions, seen_records, table_of}
 use Rattle.elf_image.proofs.TableLemmas.{headers_left-all, headers_left-next, headers_left-none}
 
 -- ---- what is known after notes
@@ -32,7 +37,7 @@ or_false : (a : Bool) → (a || false) ≡ a
 or_false true = refl
 or_false false = refl
 
-is_some-see : (t : Option RecordTable) (new : RecordTable) (b : Bool)
+is_some-see : {T : Type 0} (t : Option T) (new : T) (b : Bool)
     → is_some (cond b (or_else t (Some new)) t) ≡ (is_some t || b)
 is_some-see None new true = refl
 is_some-see None new false = refl
@@ -40,11 +45,15 @@ is_some-see (Some x) new true = refl
 is_some-see (Some x) new false = refl
 
 pub see_all-functions : (bytes : List ℕ) (seen : NotesSeen) (ns : List Note)
-    → (see_all bytes seen ns).functions ≡ (seen.functions || list_any is_functions ns)
+    → is_some (see_all bytes seen ns).functions
+    ≡ (is_some seen.functions || list_any is_functions ns)
 unfolding see_all see
-see_all-functions bytes seen [] = sym (or_false seen.functions)
-see_all-functions bytes seen (n ∷ ns) = see_all-functions bytes (see bytes seen n) ns
-    ∙ or_assoc seen.functions (is_functions n) (list_any is_functions ns)
+see_all-functions bytes seen [] = sym (or_false (is_some seen.functions))
+see_all-functions bytes seen (n ∷ ns) =
+    see_all-functions bytes (see bytes seen n) ns
+    ∙ ap (λ b. b || list_any is_functions ns)
+    (is_some-see seen.functions (functions_of bytes n) (is_functions n))
+    ∙ or_assoc (is_some seen.functions) (is_functions n) (list_any is_functions ns)
 
 pub see_all-trust : (bytes : List ℕ) (seen : NotesSeen) (ns : List Note)
     → is_some (see_all bytes seen ns).trust ≡ (is_some seen.trust || list_any is_trust ns)
@@ -74,44 +83,60 @@ see_all-versioned bytes seen (n ∷ ns) =
     ∙ versioned_step seen.versioned (is_versioned bytes n)
     (list_any (λ n. not (is_versioned bytes n)) ns)
 
-first_records : (bytes : List ℕ) → Option RecordTable → List Note → List Record
-first_records bytes None ns = records_in bytes ns
-first_records bytes (Some table) ns = records_from bytes table.place table.count
+-- the items of a table that was seen before, or those of notes
+abbrev first_items : {T X : Type 0} → (T → List X) → Option T → List X → List X
+first_items items None others = others
+first_items items (Some table) others = items table
 
-first_records-seen : (bytes : List ℕ) (t : Option RecordTable)
-    → first_records bytes t [] ≡ seen_records bytes t
-unfolding first_records records_in
-first_records-seen bytes None = refl
-first_records-seen bytes (Some table) = refl
+first_items-see : {T X : Type 0} (items : T → List X) (t : Option T) (new : T) (others : List X)
+    (b : Bool) → first_items items (cond b (or_else t (Some new)) t) others
+    ≡ first_items items t (cond b (items new) others)
+first_items-see items None new others true = refl
+first_items-see items None new others false = refl
+first_items-see items (Some x) new others true = refl
+first_items-see items (Some x) new others false = refl
 
-first_records-see : (bytes : List ℕ) (t : Option RecordTable) (n : Note) (ns : List Note) (b : Bool)
-    → is_trust n ≡ b
-    → first_records bytes (cond b (or_else t (Some (table_of bytes n))) t) ns
-    ≡ first_records bytes t (n ∷ ns)
-unfolding first_records records_in
-first_records-see bytes None n ns true e = rw e refl
-first_records-see bytes None n ns false e = rw e refl
-first_records-see bytes (Some x) n ns true e = refl
-first_records-see bytes (Some x) n ns false e = refl
+first_items-records : (bytes : List ℕ) (t : Option RecordTable)
+    → seen_records bytes t ≡ first_items (table_records bytes) t []
+first_items-records bytes None = refl
+first_items-records bytes (Some table) = refl
+
+first_items-functions : (bytes : List ℕ) (t : Option FunctionTable)
+    → seen_functions bytes t ≡ first_items (table_functions bytes) t []
+first_items-functions bytes None = refl
+first_items-functions bytes (Some table) = refl
 
 see_all-records : (bytes : List ℕ) (seen : NotesSeen) (ns : List Note)
-    → seen_records bytes (see_all bytes seen ns).trust ≡ first_records bytes seen.trust ns
-unfolding see_all see
-see_all-records bytes seen [] = sym (first_records-seen bytes seen.trust)
-see_all-records bytes seen (n ∷ ns) = see_all-records bytes (see bytes seen n) ns
-    ∙ first_records-see bytes seen.trust n ns (is_trust n) refl
+    → seen_records bytes (see_all bytes seen ns).trust
+    ≡ first_items (table_records bytes) seen.trust (records_in bytes ns)
+unfolding see_all see records_in
+see_all-records bytes seen [] = first_items-records bytes seen.trust
+see_all-records bytes seen (n ∷ ns) =
+    see_all-records bytes (see bytes seen n) ns
+    ∙ first_items-see (table_records bytes) seen.trust (table_of bytes n) (records_in bytes ns)
+    (is_trust n)
+
+see_all-listed : (bytes : List ℕ) (seen : NotesSeen) (ns : List Note)
+    → seen_functions bytes (see_all bytes seen ns).functions
+    ≡ first_items (table_functions bytes) seen.functions (functions_in bytes ns)
+unfolding see_all see functions_in
+see_all-listed bytes seen [] = first_items-functions bytes seen.functions
+see_all-listed bytes seen (n ∷ ns) =
+    see_all-listed bytes (see bytes seen n) ns
+    ∙ first_items-see (table_functions bytes) seen.functions (functions_of bytes n)
+    (functions_in bytes ns) (is_functions n)
 
 -- what is known after all notes of an image
 pub seen-records : (bytes : List ℕ) (after : NotesSeen)
     → after ≡ see_all bytes nothing_seen (notes bytes)
     → seen_records bytes after.trust ≡ records_in bytes (notes bytes)
-unfolding first_records
 seen-records bytes after e = rw e (see_all-records bytes nothing_seen (notes bytes))
 
 pub seen-functions : (bytes : List ℕ) (after : NotesSeen)
     → after ≡ see_all bytes nothing_seen (notes bytes)
-    → after.functions ≡ list_any is_functions (notes bytes)
-seen-functions bytes after e = rw e (see_all-functions bytes nothing_seen (notes bytes))
+    → seen_functions bytes after.functions ≡ image_functions bytes
+unfolding image_functions
+seen-functions bytes after e = rw e (see_all-listed bytes nothing_seen (notes bytes))
 
 pub seen-versioned : (bytes : List ℕ) (after : NotesSeen)
     → after ≡ see_all bytes nothing_seen (notes bytes)
@@ -209,57 +234,96 @@ notes_go_on bytes left place end header whole =
     rw (and_from _ _ (le-leb (place + 12) end header) (le-leb (note_end bytes place) end whole))
     refl
 
--- the records of a trust note lie in its desc
-table_within : (bytes : List ℕ) (place : ℕ) → is_trust (note_at bytes place) ≡ true
-    → is_note_shaped bytes (note_at bytes place) ≡ true → note_end bytes place ≤ length bytes
-    → HasTableOf bytes (table_of bytes (note_at bytes place))
-table_within bytes place trust shaped whole =
-    let counted = rw trust at shaped in
+-- the items of a note lie in its desc
+items_within : (bytes : List ℕ) (place size most : ℕ)
+    → is_counted bytes (note_at bytes place) size most ≡ true → note_end bytes place ≤ length bytes
+    → (item_count bytes (note_at bytes place) ≤ most)
+    × ((note_at bytes place).desc + 8 + size * item_count bytes (note_at bytes place)
+    ≤ length bytes)
+items_within bytes place size most counted whole =
     let p = and_parts _ _ counted in
     let q = and_parts _ _ p.1 in
     let long : 8 ≤ desc_size bytes place = leb-true _ _ p.0 in
-    let size : desc_size bytes place ≡ 8 + 24 * item_count bytes (note_at bytes place) =
+    let total : desc_size bytes place ≡ 8 + size * item_count bytes (note_at bytes place) =
     eqb-true _ _ q.0 in
     let some : eqb (desc_size bytes place) 0 ≡ false =
     ne_eqb _ _ (λ (e : desc_size bytes place ≡ 0). absurd (omega arith)) in
     let all : place + 12 + padded_size (name_size bytes place) + desc_size bytes place ≤ length
     bytes = rw some at whole in
-    record { few = leb-true _ _ q.1; within = omega arith }
+    (leb-true _ _ q.1, omega arith)
 
-records-see : (bytes : List ℕ) (t : Option RecordTable) (place : ℕ) (b : Bool)
-    → is_trust (note_at bytes place) ≡ b → is_note_shaped bytes (note_at bytes place) ≡ true
-    → note_end bytes place ≤ length bytes
-    → IfSome t (HasTableOf bytes)
-    → IfSome (cond b (or_else t (Some (table_of bytes (note_at bytes place)))) t)
-    (HasTableOf bytes)
-records-see bytes None place true trust shaped whole h = table_within bytes place trust shaped whole
-records-see bytes (Some x) place true trust shaped whole h = h
-records-see bytes None place false trust shaped whole h = h
-records-see bytes (Some x) place false trust shaped whole h = h
+records_within : (bytes : List ℕ) (place : ℕ) → is_note_shaped bytes (note_at bytes place) ≡ true
+    → note_end bytes place ≤ length bytes → is_trust (note_at bytes place) ≡ true
+    → HasTableOf bytes (table_of bytes (note_at bytes place))
+records_within bytes place shaped whole trust =
+    let within = items_within bytes place 24 256 (rw trust at shaped) whole in
+    record { few = within.0; within = within.1 }
+
+-- a functions note is no trust note, since it has another type
+other_kind : (a : Bool) (kind : ℕ) → kind ≡ 2 → (a && eqb kind 1) ≡ false
+other_kind true kind h = rw h refl
+other_kind false kind h = refl
+
+functions_within : (bytes : List ℕ) (place : ℕ)
+    → is_note_shaped bytes (note_at bytes place) ≡ true → note_end bytes place ≤ length bytes
+    → is_functions (note_at bytes place) ≡ true
+    → HasFunctionsOf bytes (functions_of bytes (note_at bytes place))
+functions_within bytes place shaped whole functions =
+    let kind = eqb-true _ _ (and_parts _ _ functions).1 in
+    let other : is_trust (note_at bytes place) ≡ false =
+    other_kind _ (note_at bytes place).kind kind in
+    let within = items_within bytes place 16 4096 (rw (other, functions) at shaped) whole in
+    record { few = within.0; within = within.1 }
+
+-- what is said of a table that was seen is said after one more note too
+table-see : {T : Type 0} (P : T → Type 0) (t : Option T) (new : T) (b : Bool) → (b ≡ true → P new)
+    → IfSome t P → IfSome (cond b (or_else t (Some new)) t) P
+table-see P None new true here h = here refl
+table-see P None new false here h = h
+table-see P (Some x) new true here h = h
+table-see P (Some x) new false here h = h
+
+items-see : (bytes : List ℕ) (seen : NotesSeen) (place : ℕ)
+    → is_note_shaped bytes (note_at bytes place) ≡ true → note_end bytes place ≤ length bytes
+    → HasItems bytes seen → HasItems bytes (see bytes seen (note_at bytes place))
+unfolding see
+items-see bytes seen place shaped whole h =
+    record {
+      trust = table-see (HasTableOf bytes) seen.trust _ (is_trust (note_at bytes place))
+          (records_within bytes place shaped whole) h.trust;
+      functions = table-see (HasFunctionsOf bytes) seen.functions _
+          (is_functions (note_at bytes place)) (functions_within bytes place shaped whole)
+          h.functions;
+    }
 
 pub read_begins : (bytes : List ℕ) (end size start : ℕ) (before : NotesSeen)
-    → HasRecords bytes before → start ≤ end → IsReadTo bytes end size start before size start before
-read_begins bytes end size start before records le =
-    record { fault = refl; seen_is = refl; records = records; place_le = le }
+    → HasItems bytes before → start ≤ end → IsReadTo bytes end size start before size start before
+read_begins bytes end size start before items le =
+    record { fault = refl; seen_is = refl; items = items; place_le = le }
 
 pub read_goes_on : (bytes : List ℕ) (end left more place size start : ℕ) (seen before : NotesSeen)
     → IsReadTo bytes end left place seen size start before → left ≡ suc more → place < end
     → end ≤ length bytes
-    → is_sound bytes place end (is_some seen.trust) seen.functions ≡ true
+    → is_sound bytes place end (is_some seen.trust) (is_some seen.functions) ≡ true
     → IsReadTo bytes end more (min (next_note bytes place) end)
     (see bytes seen (note_at bytes place)) size start before
 unfolding see see_all
 read_goes_on bytes end left more place size start seen before so_far count lt within test =
-    let sound = sound_view bytes place end (is_some seen.trust) seen.functions test in
+    let sound = sound_view bytes place end (is_some seen.trust) (is_some seen.functions) test in
     let trust = is_some-see seen.trust (table_of bytes (note_at bytes place))
     (is_trust (note_at bytes place)) in
+    let functions = is_some-see seen.functions (functions_of bytes (note_at bytes place))
+    (is_functions (note_at bytes place)) in
     record {
       fault =
           cut_fault bytes more (next_note bytes place) end _ _
-          ∙ ap (λ t. note_fault_between bytes more (next_note bytes place) end t (seen.functions
-          || is_functions (note_at bytes place))) trust
-          ∙ sym (fault_goes_on bytes more place end (is_some seen.trust) seen.functions lt test)
-          ∙ ap (λ n. note_fault_between bytes n place end (is_some seen.trust) seen.functions)
+          ∙ ap (note_fault_between bytes more (next_note bytes place) end _) functions
+          ∙ ap (λ t. note_fault_between bytes more (next_note bytes place) end t
+          (is_some seen.functions || is_functions (note_at bytes place))) trust
+          ∙ sym (fault_goes_on bytes more place end (is_some seen.trust)
+          (is_some seen.functions) lt test)
+          ∙ ap (λ n. note_fault_between bytes n place end (is_some seen.trust)
+          (is_some seen.functions))
           (sym count)
           ∙ so_far.fault;
       seen_is =
@@ -269,43 +333,45 @@ read_goes_on bytes end left more place size start seen before so_far count lt wi
           (sym (notes_go_on bytes more place end sound.header sound.whole))
           ∙ ap (λ n. see_all bytes seen (notes_between bytes n place end)) (sym count)
           ∙ so_far.seen_is;
-      records = records-see bytes seen.trust place (is_trust (note_at bytes place)) refl
-          sound.shaped (omega (arith, sound.whole)) so_far.records;
+      items = items-see bytes seen place sound.shaped (omega (arith, sound.whole)) so_far.items;
       place_le = omega arith;
     }
 
 pub read_stops : (bytes : List ℕ) (end left more place size start : ℕ) (seen before : NotesSeen)
     → IsReadTo bytes end left place seen size start before → left ≡ suc more → place < end
-    → is_sound bytes place end (is_some seen.trust) seen.functions ≡ false
-    → note_fault_between bytes size start end (is_some before.trust) before.functions
+    → is_sound bytes place end (is_some seen.trust) (is_some seen.functions) ≡ false
+    → note_fault_between bytes size start end (is_some before.trust) (is_some before.functions)
     ≡ Some (NoteShape place)
 read_stops bytes end left more place size start seen before so_far count lt test =
     sym so_far.fault
-    ∙ ap (λ n. note_fault_between bytes n place end (is_some seen.trust) seen.functions) count
-    ∙ fault_stops bytes more place end (is_some seen.trust) seen.functions lt test
+    ∙ ap (λ n. note_fault_between bytes n place end (is_some seen.trust)
+    (is_some seen.functions)) count
+    ∙ fault_stops bytes more place end (is_some seen.trust) (is_some seen.functions) lt test
 
 pub read_ends : (bytes : List ℕ) (end left place size start : ℕ) (seen before : NotesSeen)
     → IsReadTo bytes end left place seen size start before → end ≤ place
-    → (note_fault_between bytes size start end (is_some before.trust) before.functions ≡ None)
-    × (seen ≡ see_all bytes before (notes_between bytes size start end)) × HasRecords bytes seen
+    → (note_fault_between bytes size start end (is_some before.trust)
+    (is_some before.functions) ≡ None)
+    × (seen ≡ see_all bytes before (notes_between bytes size start end)) × HasItems bytes seen
 unfolding see_all
 read_ends bytes end left place size start seen before so_far past = (
   sym so_far.fault ∙ past_fault bytes left place end _ _ past,
   ap (see_all bytes seen)
       (sym (past_notes bytes left place end past)) ∙ so_far.seen_is,
-  so_far.records,
+  so_far.items,
 )
 
 pub read_runs_out : (bytes : List ℕ) (end left place size start : ℕ) (seen before : NotesSeen)
     → IsReadTo bytes end left place seen size start before → left ≡ 0
-    → (note_fault_between bytes size start end (is_some before.trust) before.functions ≡ None)
-    × (seen ≡ see_all bytes before (notes_between bytes size start end)) × HasRecords bytes seen
+    → (note_fault_between bytes size start end (is_some before.trust)
+    (is_some before.functions) ≡ None)
+    × (seen ≡ see_all bytes before (notes_between bytes size start end)) × HasItems bytes seen
 unfolding see_all note_fault_between notes_between
 read_runs_out bytes end left place size start seen before so_far none = (
   sym so_far.fault ∙ ap (λ n. note_fault_between bytes n place end (is_some seen.trust)
-      seen.functions) none,
+      (is_some seen.functions)) none,
   ap (λ n. see_all bytes seen (notes_between bytes n place end)) (sym none) ∙ so_far.seen_is,
-  so_far.records,
+  so_far.items,
 )
 
 -- ---- the notes of one header after another
@@ -316,7 +382,7 @@ all_begins bytes =
     record {
       fault = ap (λ hs. note_fault bytes hs false false) (headers_left-all bytes);
       seen_is = ap (λ hs. see_all bytes nothing_seen (notes_of bytes hs)) (headers_left-all bytes);
-      records = tt;
+      items = record { trust = tt; functions = tt };
     }
 
 fault_header : (bytes : List ℕ) (h : Header) (hs : List Header) (trust functions : Bool)
@@ -341,24 +407,26 @@ see_all-append bytes seen (x ∷ xs) ys = see_all-append bytes (see bytes seen x
 
 pub all_go_on : (bytes : List ℕ) (index : ℕ) (seen after : NotesSeen)
     → IsReadBefore bytes index seen → index < header_count bytes
-    → header_note_fault bytes (header_of bytes index) (is_some seen.trust) seen.functions ≡ None
+    → header_note_fault bytes (header_of bytes index) (is_some seen.trust)
+    (is_some seen.functions) ≡ None
     → after ≡ see_all bytes seen (header_notes bytes (header_of bytes index))
-    → HasRecords bytes after
+    → HasItems bytes after
     → IsReadBefore bytes (index + 1) after
-all_go_on bytes index seen after so_far lt none after_is records =
+all_go_on bytes index seen after so_far lt none after_is items =
     let h = header_of bytes index in
     let hs = headers_left bytes (index + 1) in
     let here = header_notes bytes h in
     let trust : is_some after.trust ≡ (is_some seen.trust || list_any is_trust here) =
     rw after_is (see_all-trust bytes seen here) in
-    let functions : after.functions ≡ (seen.functions || list_any is_functions here) =
+    let functions : is_some after.functions
+    ≡ (is_some seen.functions || list_any is_functions here) =
     rw after_is (see_all-functions bytes seen here) in
     record {
       fault =
-          ap (λ t. note_fault bytes hs t after.functions) trust
+          ap (λ t. note_fault bytes hs t (is_some after.functions)) trust
           ∙ ap (note_fault bytes hs (is_some seen.trust || list_any is_trust here)) functions
-          ∙ sym (fault_header bytes h hs (is_some seen.trust) seen.functions none)
-          ∙ ap (λ left. note_fault bytes left (is_some seen.trust) seen.functions)
+          ∙ sym (fault_header bytes h hs (is_some seen.trust) (is_some seen.functions) none)
+          ∙ ap (λ left. note_fault bytes left (is_some seen.trust) (is_some seen.functions))
           (sym (headers_left-next bytes index lt))
           ∙ so_far.fault;
       seen_is =
@@ -367,30 +435,32 @@ all_go_on bytes index seen after so_far lt none after_is records =
           ∙ ap (λ left. see_all bytes seen (notes_of bytes left))
           (sym (headers_left-next bytes index lt))
           ∙ so_far.seen_is;
-      records = records;
+      items = items;
     }
 
 pub all_stop : (bytes : List ℕ) (index : ℕ) (seen : NotesSeen) (fault : ImageFault)
     → IsReadBefore bytes index seen → index < header_count bytes
-    → header_note_fault bytes (header_of bytes index) (is_some seen.trust) seen.functions
+    → header_note_fault bytes (header_of bytes index) (is_some seen.trust) (is_some seen.functions)
     ≡ Some fault
     → note_fault bytes (headers bytes) false false ≡ Some fault
 all_stop bytes index seen fault so_far lt some =
     sym so_far.fault
-    ∙ ap (λ left. note_fault bytes left (is_some seen.trust) seen.functions)
+    ∙ ap (λ left. note_fault bytes left (is_some seen.trust) (is_some seen.functions))
     (headers_left-next bytes index lt)
-    ∙ fault_header_stops bytes (header_of bytes index) _ (is_some seen.trust) seen.functions fault
+    ∙ fault_header_stops bytes (header_of bytes index) _ (is_some seen.trust)
+    (is_some seen.functions) fault
     some
 
 pub all_end : (bytes : List ℕ) (index : ℕ) (seen : NotesSeen) → IsReadBefore bytes index seen
     → header_count bytes ≤ index
     → (note_fault bytes (headers bytes) false false ≡ None)
-    × (seen ≡ see_all bytes nothing_seen (notes bytes)) × HasRecords bytes seen
+    × (seen ≡ see_all bytes nothing_seen (notes bytes)) × HasItems bytes seen
 unfolding note_fault see_all
 all_end bytes index seen so_far past = (
-  sym so_far.fault ∙ ap (λ left. note_fault bytes left (is_some seen.trust) seen.functions)
+  sym so_far.fault
+      ∙ ap (λ left. note_fault bytes left (is_some seen.trust) (is_some seen.functions))
       (headers_left-none bytes index past),
   ap (λ left. see_all bytes seen (notes_of bytes left)) (sym (headers_left-none bytes index past))
       ∙ so_far.seen_is,
-  so_far.records,
+  so_far.items,
 )

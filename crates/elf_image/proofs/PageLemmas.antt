@@ -1,7 +1,7 @@
 -- The pages that segments hold.
-use Rattle.std.proofs.Common.{◌≡◌, ℕ, suc, ◌+◌, ◌-◌, ◌/◌, ◌<◌, ◌≤◌, List, ◌∷◌, Bool, true, false}
-use Rattle.std.proofs.Common.{◌||◌, ◌&&◌, inl, inr, refl, ◌∙◌, ap, arith}
-use Rattle.std.proofs.lemmas.Bool.{cases_Bool}
+use Rattle.std.proofs.Common.{◌≡◌, ℕ, zero, suc, ◌+◌, ◌-◌, ◌/◌, ◌<◌, ◌≤◌, List, ◌∷◌, Bool}
+use Rattle.std.proofs.Common.{true, false, ◌||◌, ◌&&◌, inl, inr, refl, sym, ◌∙◌, ap, arith}
+use Rattle.std.proofs.lemmas.Bool.{cases_Bool, or_right}
 use Rattle.erim_defs.specs.declared.segment.Segment.{Segment}
 use Rattle.erim_defs.specs.Inspection.Image.{Header, Record, all_pages, header_count, is_loadable}
 use Rattle.erim_defs.specs.Inspection.Image.{loadable_segments, segments, touches}
@@ -49,6 +49,26 @@ pub held_ends : (purpose : Purpose) (bytes : List ℕ) (index page : ℕ) → he
     → is_held purpose (loadable_segments (headers_left bytes index)) page ≡ false
 unfolding is_held loadable_segments
 held_ends purpose bytes index page past = rw (headers_left-none bytes index past) refl
+
+-- one of the headers from a number on
+held_from : (purpose : Purpose) (bytes : List ℕ) (page index gap start : ℕ) → start + gap ≡ index
+    → index < header_count bytes → is_holding purpose (header_of bytes index) page ≡ true
+    → is_held purpose (loadable_segments (headers_left bytes start)) page ≡ true
+held_from purpose bytes page index zero start e lt test =
+    let same : start ≡ index = omega arith in
+    rw same (held_stops purpose bytes index page lt test)
+held_from purpose bytes page index (suc gap) start e lt test =
+    let inner : start < header_count bytes = omega arith in
+    let rest = held_from purpose bytes page index gap (start + 1) (omega arith) lt test in
+    rw (headers_left-next bytes start inner) (held_header purpose _ _ page
+    ∙ or_right (is_holding purpose (header_of bytes start) page) _ rest)
+
+-- whichever it is
+pub held_near : (purpose : Purpose) (bytes : List ℕ) (index page : ℕ) → index < header_count bytes
+    → is_holding purpose (header_of bytes index) page ≡ true
+    → is_held purpose (segments bytes) page ≡ true
+held_near purpose bytes index page lt test = sym (held_begins purpose bytes page)
+    ∙ held_from purpose bytes page index index 0 (omega arith) lt test
 
 -- ---- one page after another
 

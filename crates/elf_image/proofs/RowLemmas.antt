@@ -1,25 +1,28 @@
 -- The rows of faults, in their order.
 use Rattle.std.proofs.Common.{◌≡◌, ℕ, zero, suc, ◌+◌, ◌*◌, ◌/◌, ◌<◌, ◌≤◌, List, [], ◌∷◌, length}
 use Rattle.std.proofs.Common.{Some, None, Bool, true, false, cond, not, inl, inr, ltb, eqb, refl}
-use Rattle.std.proofs.Common.{sym, subst, ◌∙◌, arith, sum_by}
+use Rattle.std.proofs.Common.{sym, subst, ◌∙◌, ap, arith, sum_by}
 use Rattle.std.proofs.lemmas.Bool.{cases_Bool, and_parts, ltb-false}
 use Rattle.erim_defs.specs.Inspection.Code.{or_else}
 use Rattle.erim_defs.specs.declared.fault.ImageFault.{ImageFault}
 use Rattle.erim_defs.specs.declared.fault.ImageFault.TheVariants.{Short, FileType, Machine}
 use Rattle.erim_defs.specs.declared.fault.ImageFault.TheVariants.{HeaderSize, TooMany, NoteVersion}
-use Rattle.erim_defs.specs.declared.fault.ImageFault.TheVariants.{EntryPoint, NotYet}
+use Rattle.erim_defs.specs.declared.fault.ImageFault.TheVariants.{EntryPoint}
 use Rattle.erim_defs.specs.Inspection.Image.{Header, entry_point, fault_if, file_type, first_fault}
 use Rattle.erim_defs.specs.Inspection.Image.{head_fault, header_at, header_count, header_fault}
 use Rattle.erim_defs.specs.Inspection.Image.{header_size, headers, headers_from, is_in_file}
 use Rattle.erim_defs.specs.Inspection.Image.{is_noted, is_ranged, later_fault, machine, note_fault}
 use Rattle.erim_defs.specs.Inspection.Image.{notes, pages_of, range_fault, records, segment_fault}
+use Rattle.erim_defs.specs.Inspection.Image.{function_fault, image_functions}
 use Rattle.erim_defs.specs.Inspection.Image.{segments, static_fault, table_place, trust_fault}
 use Rattle.erim_defs.proofs.FaultLemmas.{cond_fault, later_none, or_none}
+use Rattle.elf_image.specs.declared.functions.FunctionTable.{FunctionTable}
 use Rattle.elf_image.specs.declared.notes.NotesSeen.{NotesSeen}
 use Rattle.elf_image.specs.declared.pages.Purpose.TheVariants.{Execution}
 use Rattle.elf_image.specs.declared.records.RecordTable.{RecordTable}
 use Rattle.elf_image.specs.Form.{IsSeen}
-use Rattle.elf_image.specs.Notes.{HasNotes, nothing_seen, see_all, seen_records}
+use Rattle.elf_image.specs.Functions.{table_functions}
+use Rattle.elf_image.specs.Notes.{HasNotes, nothing_seen, see_all, seen_functions, seen_records}
 use Rattle.elf_image.specs.Records.{is_held, records_fault, table_records}
 use Rattle.elf_image.specs.Table.{HasTable, header_of}
 use Rattle.elf_image.proofs.NoteLemmas.{seen-functions, seen-records, seen-versioned}
@@ -127,6 +130,11 @@ trust_records bytes seen table none seen_is good table_is =
     sym (table_is ∙ seen-records bytes seen seen_is) in
     rw (none, seen-versioned bytes seen seen_is, good, same) refl
 
+pub functions_are : (bytes : List ℕ) (seen : NotesSeen) (table : FunctionTable) → IsSeen bytes seen
+    → table_functions bytes table ≡ seen_functions bytes seen.functions
+    → table_functions bytes table ≡ image_functions bytes
+functions_are bytes seen table h same = same ∙ seen-functions bytes seen h.seen_is
+
 -- ---- all rows behind the first
 
 pub later_header : (bytes : List ℕ) (fault : ImageFault) → header_fault bytes ≡ Some fault
@@ -144,13 +152,33 @@ pub later_trust : (bytes : List ℕ) (fault : ImageFault) → header_fault bytes
 unfolding later_fault
 later_trust bytes fault header segment trust = rw (header, segment, trust) refl
 
-pub later_entry : (bytes : List ℕ) → header_fault bytes ≡ None → segment_fault bytes ≡ None
-    → trust_fault bytes ≡ None
+-- the functions that were seen are those of the image
+seen_function_fault : (bytes : List ℕ) (seen : NotesSeen) (table : FunctionTable)
+    → IsSeen bytes seen → table_functions bytes table ≡ seen_functions bytes seen.functions
+    → function_fault 0 (segments bytes) [] (image_functions bytes)
+    ≡ function_fault 0 (segments bytes) [] (table_functions bytes table)
+seen_function_fault bytes seen table h same =
+    ap (function_fault 0 (segments bytes) []) (sym (functions_are bytes seen table h same))
+
+pub later_function : (bytes : List ℕ) (seen : NotesSeen) (table : FunctionTable)
+    (fault : ImageFault) → header_fault bytes ≡ None → segment_fault bytes ≡ None
+    → trust_fault bytes ≡ None → IsSeen bytes seen
+    → table_functions bytes table ≡ seen_functions bytes seen.functions
+    → function_fault 0 (segments bytes) [] (table_functions bytes table) ≡ Some fault
+    → later_fault bytes ≡ Some fault
+unfolding later_fault
+later_function bytes seen table fault header segment trust h same function =
+    rw (header, segment, trust, seen_function_fault bytes seen table h same, function) refl
+
+pub later_entry : (bytes : List ℕ) (seen : NotesSeen) (table : FunctionTable)
+    → header_fault bytes ≡ None → segment_fault bytes ≡ None → trust_fault bytes ≡ None
+    → IsSeen bytes seen → table_functions bytes table ≡ seen_functions bytes seen.functions
+    → function_fault 0 (segments bytes) [] (table_functions bytes table) ≡ None
     → later_fault bytes ≡ cond (is_held Execution (segments bytes) (entry_point bytes / 4096)) None
     (Some EntryPoint)
 unfolding later_fault is_held
-later_entry bytes header segment trust =
-    rw (header, segment, trust)
+later_entry bytes seen table header segment trust h same function =
+    rw (header, segment, trust, seen_function_fault bytes seen table h same, function)
     elim (cases_Bool (is_held Execution (segments bytes) (entry_point bytes / 4096))) [
       | inl held ↦ rw held refl
       | inr not_held ↦ rw not_held refl
@@ -163,17 +191,10 @@ pub first_head : (bytes : List ℕ) (fault : ImageFault) → head_fault bytes �
 unfolding first_fault
 first_head bytes fault h = rw h refl
 
-pub first_later : (bytes : List ℕ) (fault : ImageFault) → head_fault bytes ≡ None
-    → later_fault bytes ≡ Some fault → first_fault bytes ≡ Some NotYet
+pub first_later : (bytes : List ℕ) → head_fault bytes ≡ None
+    → first_fault bytes ≡ later_fault bytes
 unfolding first_fault
-first_later bytes fault head later = rw (head, later) refl
-
-pub first_seen : (bytes : List ℕ) (seen : NotesSeen) → head_fault bytes ≡ None
-    → later_fault bytes ≡ None → IsSeen bytes seen
-    → first_fault bytes ≡ cond seen.functions (Some NotYet) None
-unfolding first_fault
-first_seen bytes seen head later seen_all =
-    rw (head, later, ← seen-functions bytes seen seen_all.seen_is) refl
+first_later bytes head = rw head refl
 
 -- ---- what is accepted
 

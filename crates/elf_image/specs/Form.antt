@@ -6,15 +6,16 @@ use Rattle.erim_defs.specs.declared.fault.ImageFault.{ImageFault}
 use Rattle.erim_defs.specs.declared.trust.Span.{Span}
 use Rattle.erim_defs.specs.Inspection.Trust.{TrustValue}
 use Rattle.erim_defs.specs.Inspection.Image.{IsAccepted, Record, entry_point, first_fault}
-use Rattle.erim_defs.specs.Inspection.Image.{image_data, image_heaps, image_trust, later_fault}
+use Rattle.erim_defs.specs.Inspection.Image.{image_data, image_functions, image_heaps}
+use Rattle.erim_defs.specs.Inspection.Image.{image_trust, later_fault}
 use Rattle.erim_defs.specs.Inspection.Image.{notes, segments, spans_of, trust_fault}
 use Rattle.elf_image.specs.declared.notes.NotesSeen.{NotesSeen}
-use Rattle.elf_image.specs.Notes.{HasRecords, nothing_seen, see_all}
+use Rattle.elf_image.specs.Notes.{HasItems, nothing_seen, see_all}
 
 -- all notes were seen
 pub record IsSeen (bytes : List ℕ) (seen : NotesSeen) : Type 0 where
   pub seen_is : seen ≡ see_all bytes nothing_seen (notes bytes)
-  pub records : HasRecords bytes seen
+  pub items : HasItems bytes seen
 
 -- the rows of notes and records find no fault, and tell the notes, or they find one
 abbrev pub ChecksTrust : List ℕ → Result NotesSeen ImageFault → Type 0
@@ -39,11 +40,12 @@ spans_in kind rs = spans_of (λ r. r.kind == kind) rs
 
 -- the bytes are accepted, and the rest is what they tell
 pub record IsRead (bytes : List ℕ) (list : List Segment) (trust : TrustValue)
-    (trusted heaps : List Span) (entry : ℕ) : Type 0 where
+    (trusted heaps functions : List Span) (entry : ℕ) : Type 0 where
   pub accepted : IsAccepted bytes
   pub octets : AreBytes bytes
   pub list_is : list ≡ segments bytes
   pub trust_is : trust ≡ image_trust bytes
   pub trusted_is : trusted ≡ image_data bytes
   pub heaps_is : heaps ≡ image_heaps bytes
+  pub functions_is : functions ≡ image_functions bytes
   pub entry_is : entry ≡ entry_point bytes

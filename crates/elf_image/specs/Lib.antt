@@ -1,4 +1,5 @@
 pub mod Form
+pub mod Functions
 pub mod Notes
 pub mod Records
 pub mod Table

@@ -1,15 +1,17 @@
 -- What reading the notes of an image leaves known.
-use Rattle.std.specs.Prelude.{◌≡◌, ℕ, ◌+◌, ◌*◌, ◌<◌, ◌≤◌, ◌&&◌, ◌||◌, nat_le, not, Bool, true}
+use Rattle.std.specs.Prelude.{◌≡◌, ℕ, ◌+◌, ◌*◌, ◌<◌, ◌≤◌, ◌&&◌, nat_le, not, Bool, true}
 use Rattle.std.specs.Prelude.{false, Option, Some, None, is_some, IfSome, Result, MatchResult, List}
 use Rattle.std.specs.Prelude.{[], ◌∷◌, length, if◌then◌else◌}
 use Rattle.erim_defs.specs.Inspection.Code.{or_else}
 use Rattle.erim_defs.specs.declared.fault.ImageFault.{ImageFault}
+use Rattle.erim_defs.specs.declared.trust.Span.{Span}
 use Rattle.erim_defs.specs.Inspection.Image.{Header, Note, Record, header_count, header_note_fault}
 use Rattle.erim_defs.specs.Inspection.Image.{header_notes, headers, is_functions, is_in_file}
 use Rattle.erim_defs.specs.Inspection.Image.{is_note_shaped, is_noted, is_trust, is_versioned}
 use Rattle.erim_defs.specs.Inspection.Image.{item_count, note_at, note_end, note_fault}
 use Rattle.erim_defs.specs.Inspection.Image.{note_fault_between, notes, notes_between, notes_of}
-use Rattle.erim_defs.specs.Inspection.Image.{records_from}
+use Rattle.erim_defs.specs.Inspection.Image.{functions_from, records_from}
+use Rattle.elf_image.specs.declared.functions.FunctionTable.{FunctionTable}
 use Rattle.elf_image.specs.declared.notes.NotesSeen.{NotesSeen}
 use Rattle.elf_image.specs.declared.records.RecordTable.{RecordTable}
 use Rattle.elf_image.specs.Table.{header_of, headers_left}
@@ -28,8 +30,15 @@ pub record HasTableOf (bytes : List ℕ) (table : RecordTable) : Type 0 where
   pub few : table.count ≤ 256
   pub within : table.place + 24 * table.count ≤ length bytes
 
-abbrev pub HasRecords : List ℕ → NotesSeen → Type 0
-HasRecords bytes seen = IfSome seen.trust (HasTableOf bytes)
+-- the functions of a table lie in the bytes
+pub record HasFunctionsOf (bytes : List ℕ) (table : FunctionTable) : Type 0 where
+  pub few : table.count ≤ 4096
+  pub within : table.place + 16 * table.count ≤ length bytes
+
+-- what was seen lies in the bytes
+pub record HasItems (bytes : List ℕ) (seen : NotesSeen) : Type 0 where
+  pub trust : IfSome seen.trust (HasTableOf bytes)
+  pub functions : IfSome seen.functions (HasFunctionsOf bytes)
 
 -- the note at a place is whole and shaped, and no second one of its kind
 unfoldable pub is_sound : List ℕ → ℕ → ℕ → Bool → Bool → Bool
@@ -43,14 +52,19 @@ is_sound bytes place end trust functions =
 abbrev pub table_of : List ℕ → Note → RecordTable
 table_of bytes note = record { place = note.desc + 8; count = item_count bytes note }
 
+-- the functions that a functions note tells
+abbrev pub functions_of : List ℕ → Note → FunctionTable
+functions_of bytes note = record { place = note.desc + 8; count = item_count bytes note }
+
 abbrev pub nothing_seen : NotesSeen
-nothing_seen = record { trust = None; functions = false; versioned = true }
+nothing_seen = record { trust = None; functions = None; versioned = true }
 
 -- what is known after one more note, and after so many
 unfoldable pub see : List ℕ → NotesSeen → Note → NotesSeen
 see bytes seen note = record {
   trust = (if is_trust note then or_else seen.trust (Some (table_of bytes note)) else seen.trust);
-  functions = seen.functions || is_functions note;
+  functions = (if is_functions note
+      then or_else seen.functions (Some (functions_of bytes note)) else seen.functions);
   versioned = seen.versioned && is_versioned bytes note;
 }
 
@@ -63,33 +77,39 @@ abbrev pub seen_records : List ℕ → Option RecordTable → List Record
 seen_records bytes None = []
 seen_records bytes (Some table) = records_from bytes table.place table.count
 
+-- the functions of what was seen
+abbrev pub seen_functions : List ℕ → Option FunctionTable → List Span
+seen_functions bytes None = []
+seen_functions bytes (Some table) = functions_from bytes table.place table.count
+
 -- the notes in so many bytes from a place on are read: what is known then, or their first fault
 abbrev pub Reads : List ℕ → ℕ → ℕ → NotesSeen → Result NotesSeen ImageFault → Type 0
 Reads bytes size start before result =
     MatchResult result
     (λ after. (note_fault_between bytes size start (start + size) (is_some before.trust)
-    before.functions ≡ None)
+    (is_some before.functions) ≡ None)
     × (after ≡ see_all bytes before (notes_between bytes size start (start + size)))
-    × HasRecords bytes after)
+    × HasItems bytes after)
     (λ fault. note_fault_between bytes size start (start + size) (is_some before.trust)
-    before.functions ≡ Some fault)
+    (is_some before.functions) ≡ Some fault)
 
 -- the same of the notes of one header
 abbrev pub ReadsHeader : List ℕ → Header → NotesSeen → Result NotesSeen ImageFault → Type 0
 ReadsHeader bytes h before result =
     MatchResult result
-    (λ after. (header_note_fault bytes h (is_some before.trust) before.functions ≡ None)
-    × (after ≡ see_all bytes before (header_notes bytes h)) × HasRecords bytes after)
-    (λ fault. header_note_fault bytes h (is_some before.trust) before.functions ≡ Some fault)
+    (λ after. (header_note_fault bytes h (is_some before.trust) (is_some before.functions) ≡ None)
+    × (after ≡ see_all bytes before (header_notes bytes h)) × HasItems bytes after)
+    (λ fault. header_note_fault bytes h (is_some before.trust) (is_some before.functions)
+    ≡ Some fault)
 
 -- what is left from a place on gives what all of them give
 pub record IsReadTo (bytes : List ℕ) (end left place : ℕ) (seen : NotesSeen) (size start : ℕ)
     (before : NotesSeen) : Type 0 where
-  pub fault : note_fault_between bytes left place end (is_some seen.trust) seen.functions
-      ≡ note_fault_between bytes size start end (is_some before.trust) before.functions
+  pub fault : note_fault_between bytes left place end (is_some seen.trust) (is_some seen.functions)
+      ≡ note_fault_between bytes size start end (is_some before.trust) (is_some before.functions)
   pub seen_is : see_all bytes seen (notes_between bytes left place end)
       ≡ see_all bytes before (notes_between bytes size start end)
-  pub records : HasRecords bytes seen
+  pub items : HasItems bytes seen
   pub place_le : place ≤ end
 
 -- the notes of each header lie in the bytes
@@ -102,13 +122,13 @@ abbrev pub ReadsAll : List ℕ → Result NotesSeen ImageFault → Type 0
 ReadsAll bytes result =
     MatchResult result
     (λ after. (note_fault bytes (headers bytes) false false ≡ None)
-    × (after ≡ see_all bytes nothing_seen (notes bytes)) × HasRecords bytes after)
+    × (after ≡ see_all bytes nothing_seen (notes bytes)) × HasItems bytes after)
     (λ fault. note_fault bytes (headers bytes) false false ≡ Some fault)
 
 -- the notes of the headers before an index are read
 pub record IsReadBefore (bytes : List ℕ) (index : ℕ) (seen : NotesSeen) : Type 0 where
-  pub fault : note_fault bytes (headers_left bytes index) (is_some seen.trust) seen.functions
-      ≡ note_fault bytes (headers bytes) false false
+  pub fault : note_fault bytes (headers_left bytes index) (is_some seen.trust)
+      (is_some seen.functions) ≡ note_fault bytes (headers bytes) false false
   pub seen_is : see_all bytes seen (notes_of bytes (headers_left bytes index))
       ≡ see_all bytes nothing_seen (notes bytes)
-  pub records : HasRecords bytes seen
+  pub items : HasItems bytes seen

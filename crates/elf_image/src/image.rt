@@ -4,13 +4,13 @@ ghost use Rattle.std.specs.Prelude.{◌≡◌, ℕ, ◌<◌, ◌≤◌, ◌^◌,
 ghost use Rattle.std.specs.Prelude.{MatchResult};
 ghost use Rattle.std.specs.List.{All, AllPairs};
 ghost use Rattle.erim_defs.specs.Inspection.Image.{IsAccepted, IsPlaced, entry_point, image_data};
-ghost use Rattle.erim_defs.specs.Inspection.Image.{image_heaps, image_trust, page_count};
-ghost use Rattle.erim_defs.specs.Inspection.Image.{page_total, segments, shares_page};
+ghost use Rattle.erim_defs.specs.Inspection.Image.{image_functions, image_heaps, image_trust};
+ghost use Rattle.erim_defs.specs.Inspection.Image.{page_count, page_total, segments, shares_page};
 ghost use Rattle.erim_defs.specs.Encoding.Parts.{AreBytes};
 ghost use Rattle.elf_image.specs.Form.{IsSeen};
 
 use crate::field::entry_point;
-use crate::lists::{entries, segments, spans};
+use crate::lists::{entries, functions, segments, spans};
 use crate::notes::NotesSeen;
 use erim_defs::note::{TRUSTED_DATA, TRUSTED_HEAP, TRUSTED_TEXT};
 use erim_defs::{ImageFault, Segment, Span, Trust};
@@ -33,6 +33,7 @@ pub struct Image {
     trust: Trust,
     trusted: Vec<Span>,
     heaps: Vec<Span>,
+    functions: Vec<Span>,
     entry: u64,
 }
 
@@ -46,7 +47,7 @@ impl Model for Image {
 
     ghost invariant = { λ image.
         IsRead image.bytes.items image.segments.items image.trust image.trusted.items
-        image.heaps.items image.entry };
+        image.heaps.items image.functions.items image.entry };
 }
 
 impl Image {
@@ -71,6 +72,7 @@ impl Image {
             trust,
             trusted: spans(alloc, bytes, table, TRUSTED_DATA)?,
             heaps: spans(alloc, bytes, table, TRUSTED_HEAP)?,
+            functions: functions(alloc, bytes, seen.functions())?,
             entry: entry_point(bytes),
             bytes: Vec::from_slice(alloc, bytes)?,
         })
@@ -125,6 +127,13 @@ impl Image {
         ensures { result.now ≡ image_heaps self.now }
     {
         self.heaps.as_slice()
+    }
+
+    /// The functions of the functions note, in its order; an image without that note has none.
+    pub fn functions(&self) -> &[Span]
+        ensures { result.now ≡ image_functions self.now }
+    {
+        self.functions.as_slice()
     }
 
     /// How many pages all segments touch.

@@ -2,12 +2,13 @@
 
 ghost use Rattle.std.specs.Prelude.{◌≡◌, ◌≤◌, ◌<◌, length, IfSome, MatchResult};
 ghost use Rattle.erim_defs.specs.Inspection.Image.{IsAccepted, first_fault, has_class, has_magic};
-ghost use Rattle.erim_defs.specs.Inspection.Image.{head_fault, header_fault, later_fault};
+ghost use Rattle.erim_defs.specs.Inspection.Image.{head_fault, header_fault};
 ghost use Rattle.elf_image.specs.Form.{Checks, ChecksLater, ChecksTrust};
 ghost use Rattle.elf_image.specs.Notes.{HasNotes};
 ghost use Rattle.elf_image.specs.Table.{HasTable};
 
 use crate::field::{entry_point, header_count, table_place, u16_at};
+use crate::functions::function_fault;
 use crate::headers::segment_fault;
 use crate::image::Image;
 use crate::notes::{NotesSeen, read_notes};
@@ -22,7 +23,7 @@ use erim_defs::limits::MOST_HEADERS;
 use erim_defs::page::PAGE_SIZE;
 use std::alloc::Global;
 
-/// Reads an image: a static x86-64 program with its trust note.
+/// Reads an image: a static x86-64 program with its trust note and its functions note.
 pub fn read_image(alloc: Global, bytes: &[u8]) -> Result<Image, ImageFault>
     // A fault is the first one, and needs no memory.
     ensures faulty { IfSome (first_fault bytes.now) (λ fault. result ≡ Err fault) }
@@ -35,19 +36,15 @@ pub fn read_image(alloc: Global, bytes: &[u8]) -> Result<Image, ImageFault>
     Image::from_accepted(alloc, bytes, seen)
 }
 
-// The first fault as an error. It stands before all that takes memory. The later faults have one
-// name so far, which an image with a functions note has too.
-#[tactic(auto, using(crate::proofs::RowLemmas::first_head, crate::proofs::RowLemmas::first_later, crate::proofs::RowLemmas::first_seen, crate::proofs::RowLemmas::head_long))]
+// The first fault as an error. It stands before all that takes memory.
+#[tactic(auto, using(crate::proofs::RowLemmas::first_head, crate::proofs::RowLemmas::first_later, crate::proofs::RowLemmas::head_long))]
 fn check(bytes: &[u8]) -> Result<NotesSeen, ImageFault>
     ensures { Checks bytes.now result }
 {
     if let Some(fault) = head_fault(bytes) {
         return Err(fault);
     }
-    match check_later(bytes) {
-        Ok(seen) if !seen.functions => Ok(seen),
-        _ => Err(ImageFault::NotYet),
-    }
+    check_later(bytes)
 }
 
 // What the first bytes show.
@@ -84,16 +81,8 @@ fn has_class(bytes: &[u8]) -> bool
         && bytes[EI_VERSION] == EV_CURRENT
 }
 
-/// The fault of an image behind its first bytes, which `read_image` still tells as `NotYet`.
-pub fn later_fault(bytes: &[u8]) -> Option<ImageFault>
-    requires { 64 ≤ length bytes.now }
-    ensures { result ≡ later_fault bytes.now }
-{
-    check_later(bytes).err()
-}
-
 // The rows behind the first, with the notes that they saw.
-#[tactic(auto, using(crate::proofs::RowLemmas::later_header, crate::proofs::RowLemmas::later_segment, crate::proofs::RowLemmas::later_trust, crate::proofs::RowLemmas::later_entry, crate::proofs::RowLemmas::has_table, crate::proofs::RowLemmas::has_notes))]
+#[tactic(auto, using(crate::proofs::RowLemmas::later_header, crate::proofs::RowLemmas::later_segment, crate::proofs::RowLemmas::later_trust, crate::proofs::RowLemmas::has_table, crate::proofs::RowLemmas::has_notes))]
 fn check_later(bytes: &[u8]) -> Result<NotesSeen, ImageFault>
     requires { 64 ≤ length bytes.now }
     ensures { ChecksLater bytes.now result }
@@ -105,6 +94,9 @@ fn check_later(bytes: &[u8]) -> Result<NotesSeen, ImageFault>
         return Err(fault);
     }
     let seen = check_trust(bytes)?;
+    if let Some(fault) = function_fault(bytes, seen.functions()) {
+        return Err(fault);
+    }
     if !is_held(bytes, Purpose::Execution, entry_point(bytes) / PAGE_SIZE) {
         return Err(ImageFault::EntryPoint);
     }

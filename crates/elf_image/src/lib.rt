@@ -1,17 +1,17 @@
 //! Reads ELF-64 images: bytes become an `Image`, or the first fault that they have.
 //!
-//! `read_image` is the one way in; `later_fault` names the faults that it doesn't tell apart yet.
-//! The commands that inspect, list and run a program call it on the bytes of a file, and the crates
-//! below them take the image's segments and its trusted part, which are known to lie where they may.
-//! The fault is `first_fault` of `erim_defs`' `Image`, and an image tells what `segments`,
-//! `image_trust`, `image_data` and `image_heaps` there say of its bytes. The faults are asked in
-//! rows, as the definition has them: of the file header
-//! (`image_reader`), of program headers (`header`, `headers`), of notes (`note`, `notes`), and of
-//! records (`record`, `records`, `pages`). What is accepted is kept (`image`, `lists`); all memory
-//! is asked for after the last fault.
+//! `read_image` is the one way in. The commands that inspect, list and run a program call it on the
+//! bytes of a file, and the crates below them take the image's segments and its trusted part, which
+//! are known to lie where they may. The fault is `first_fault` of `erim_defs`' `Image`, and an
+//! image tells what `segments`, `image_trust`, `image_data`, `image_heaps` and `image_functions`
+//! there say of its bytes. The faults are asked in rows, as the definition has them: of the file
+//! header (`image_reader`), of program headers (`header`, `headers`), of notes (`note`, `notes`),
+//! of records (`record`, `records`, `pages`) and of functions (`functions`). What is accepted is
+//! kept (`image`, `lists`); all memory is asked for after the last fault.
 #![tactic(auto)]
 
 mod field;
+mod functions;
 mod header;
 mod headers;
 mod image;
@@ -25,4 +25,4 @@ mod records;
 
 pub use erim_defs::{ImageFault, Segment, Span, Trust};
 pub use image::Image;
-pub use image_reader::{later_fault, read_image};
+pub use image_reader::read_image;

@@ -3,11 +3,13 @@
 ghost use Rattle.std.specs.Prelude.{◌≡◌, IfOk};
 ghost use Rattle.erim_defs.specs.Inspection.Image.{segments, starts_of};
 ghost use Rattle.elf_image.specs.Form.{spans_in};
-ghost use Rattle.elf_image.specs.Notes.{HasTableOf};
+ghost use Rattle.elf_image.specs.Functions.{table_functions};
+ghost use Rattle.elf_image.specs.Notes.{HasFunctionsOf, HasTableOf};
 ghost use Rattle.elf_image.specs.Records.{table_records};
 ghost use Rattle.elf_image.specs.Table.{HasTable};
 
 use crate::field::header_count;
+use crate::functions::{FunctionTable, read_function};
 use crate::header::Header;
 use crate::record::Record;
 use crate::records::RecordTable;
@@ -67,6 +69,23 @@ pub(crate) fn entries(
         if record.is_entry_record() {
             list.push(record.start())?;
         }
+    }
+    Ok(list)
+}
+
+/// The functions of a table.
+#[tactic(auto, using(crate::proofs::FunctionLemmas::functions_begin, crate::proofs::FunctionLemmas::functions_take, crate::proofs::FunctionLemmas::functions_end))]
+pub(crate) fn functions(
+    alloc: Global,
+    bytes: &[u8],
+    table: FunctionTable,
+) -> Result<Vec<Span>, AllocError>
+    requires { HasFunctionsOf bytes.now table }
+    ensures { IfOk result (λ list. list.items ≡ table_functions bytes.now table) }
+{
+    let mut list = Vec::new(alloc);
+    for index in 0..table.count {
+        list.push(read_function(bytes, table, index))?;
     }
     Ok(list)
 }

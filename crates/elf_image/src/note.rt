@@ -5,9 +5,10 @@ ghost use Rattle.std.specs.Prelude.{◌≡◌, ◌+◌, ◌≤◌, ◌<◌, ◌^
 ghost use Rattle.erim_defs.specs.Inspection.Image.{is_counted, is_functions, is_note_shaped};
 ghost use Rattle.erim_defs.specs.Inspection.Image.{is_trust, is_versioned, item_count, next_note};
 ghost use Rattle.erim_defs.specs.Inspection.Image.{note_at, note_end, padded_size};
-ghost use Rattle.elf_image.specs.Notes.{HasDesc, HasNote, table_of};
+ghost use Rattle.elf_image.specs.Notes.{HasDesc, HasNote, functions_of, table_of};
 
 use crate::field::u32_at;
+use crate::functions::FunctionTable;
 use crate::records::RecordTable;
 use erim_defs::elf::{N_DESCSZ, N_TYPE, NOTE_HEADER_SIZE};
 use erim_defs::limits::{MOST_FUNCTIONS, MOST_RECORDS};
@@ -145,7 +146,7 @@ impl<'a> Note<'a> {
         if self.is_trust() {
             self.is_counted(bytes, RECORD_SIZE as u64, MOST_RECORDS)
         } else if self.is_functions() {
-            self.is_counted(bytes, FUNCTION_SIZE, MOST_FUNCTIONS)
+            self.is_counted(bytes, FUNCTION_SIZE as u64, MOST_FUNCTIONS)
         } else {
             true
         }
@@ -168,6 +169,19 @@ impl<'a> Note<'a> {
         ensures { result ≡ table_of bytes.now self.now }
     {
         RecordTable {
+            place: self.desc + NOTE_ITEMS as usize,
+            count: self.item_count(bytes),
+        }
+    }
+
+    /// Where the functions of a functions note stand.
+    pub(crate) fn functions_of(&self, bytes: &[u8]) -> FunctionTable
+        requires within { HasDesc bytes.now self.now }
+        requires shaped { is_note_shaped bytes.now self.now ≡ true }
+        requires functions { is_functions self.now ≡ true }
+        ensures { result ≡ functions_of bytes.now self.now }
+    {
+        FunctionTable {
             place: self.desc + NOTE_ITEMS as usize,
             count: self.item_count(bytes),
         }

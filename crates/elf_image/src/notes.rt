@@ -2,12 +2,15 @@
 
 ghost use Rattle.std.specs.Prelude.{◌≡◌, ℕ, ◌+◌, ◌≤◌, ◌<◌, List, is_some, length, true};
 ghost use Rattle.erim_defs.specs.Inspection.Image.{is_in_file, is_note_shaped, is_noted};
-ghost use Rattle.elf_image.specs.Notes.{HasDesc, HasNotes, HasRecords, HasTableOf, Reads, ReadsAll};
-ghost use Rattle.elf_image.specs.Notes.{ReadsHeader, is_sound, see, seen_records};
+ghost use Rattle.elf_image.specs.Notes.{HasDesc, HasFunctionsOf, HasItems, HasNotes, HasTableOf};
+ghost use Rattle.elf_image.specs.Notes.{Reads, ReadsAll, ReadsHeader, is_sound, see};
+ghost use Rattle.elf_image.specs.Notes.{seen_functions, seen_records};
+ghost use Rattle.elf_image.specs.Functions.{table_functions};
 ghost use Rattle.elf_image.specs.Records.{table_records};
 ghost use Rattle.elf_image.specs.Table.{HasTable};
 
 use crate::field::header_count;
+use crate::functions::FunctionTable;
 use crate::header::Header;
 use crate::note::{Note, is_whole, next_note};
 use crate::records::RecordTable;
@@ -18,8 +21,8 @@ use erim_defs::ImageFault;
 pub(crate) struct NotesSeen {
     /// The records of the trust note.
     pub(crate) trust: Option<RecordTable>,
-    /// Is there a functions note?
-    pub(crate) functions: bool,
+    /// The functions of the functions note.
+    pub(crate) functions: Option<FunctionTable>,
     /// Has each of the two the version that is read?
     pub(crate) versioned: bool,
 }
@@ -30,9 +33,20 @@ impl NotesSeen {
     pub(crate) fn records(self) -> RecordTable
         ensures same { (bytes : List ℕ) →
             table_records bytes result ≡ seen_records bytes self.trust }
-        ensures within { (bytes : List ℕ) → HasRecords bytes self → HasTableOf bytes result }
+        ensures within { (bytes : List ℕ) → HasItems bytes self → HasTableOf bytes result }
     {
         self.trust.unwrap_or(RecordTable { place: 0, count: 0 })
+    }
+
+    /// The functions of the functions note, or none.
+    #[tactic(auto, unfolding(erim_defs::specs::Inspection::Image::functions_from))]
+    pub(crate) fn functions(self) -> FunctionTable
+        ensures same { (bytes : List ℕ) →
+            table_functions bytes result ≡ seen_functions bytes self.functions }
+        ensures within { (bytes : List ℕ) → HasItems bytes self → HasFunctionsOf bytes result }
+    {
+        self.functions
+            .unwrap_or(FunctionTable { place: 0, count: 0 })
     }
 }
 
@@ -44,7 +58,7 @@ pub(crate) fn read_notes(bytes: &[u8]) -> Result<NotesSeen, ImageFault>
 {
     let mut seen = NotesSeen {
         trust: None,
-        functions: false,
+        functions: None,
         versioned: true,
     };
     for index in 0..header_count(bytes) {
@@ -58,7 +72,7 @@ pub(crate) fn read_notes(bytes: &[u8]) -> Result<NotesSeen, ImageFault>
 fn read_header(bytes: &[u8], header: &Header, before: NotesSeen) -> Result<NotesSeen, ImageFault>
     requires within { is_noted header.now ≡ true →
         is_in_file (length bytes.now) header.now.segment ≡ true }
-    requires records { HasRecords bytes.now before }
+    requires items { HasItems bytes.now before }
     ensures { ReadsHeader bytes.now header.now before result }
 {
     if !header.is_noted() {
@@ -82,7 +96,7 @@ fn read_between(
     before: NotesSeen,
 ) -> Result<NotesSeen, ImageFault>
     requires within { start + size ≤ length bytes.now }
-    requires records { HasRecords bytes.now before }
+    requires items { HasItems bytes.now before }
     ensures { Reads bytes.now size start before result }
 {
     let end = start + size;
@@ -107,7 +121,8 @@ fn read_between(
 fn is_sound(bytes: &[u8], place: usize, end: usize, seen: NotesSeen) -> bool
     requires order { place ≤ end }
     requires within { end ≤ length bytes.now }
-    ensures { result ≡ is_sound bytes.now place end (is_some seen.trust) seen.functions }
+    ensures { result ≡ is_sound bytes.now place end (is_some seen.trust)
+        (is_some seen.functions) }
 {
     if !is_whole(bytes, place, end) {
         return false;
@@ -115,7 +130,7 @@ fn is_sound(bytes: &[u8], place: usize, end: usize, seen: NotesSeen) -> bool
     let note = Note::read(bytes, place);
     note.is_note_shaped(bytes)
         && !(seen.trust.is_some() && note.is_trust())
-        && !(seen.functions && note.is_functions())
+        && !(seen.functions.is_some() && note.is_functions())
 }
 
 // What is known after one more note.
@@ -129,9 +144,13 @@ fn see(bytes: &[u8], note: &Note<'_>, seen: NotesSeen) -> NotesSeen
         None if note.is_trust() => Some(note.table_of(bytes)),
         trust => trust,
     };
+    let functions = match seen.functions {
+        None if note.is_functions() => Some(note.functions_of(bytes)),
+        functions => functions,
+    };
     NotesSeen {
         trust,
-        functions: seen.functions || note.is_functions(),
+        functions,
         versioned: seen.versioned && note.is_versioned(bytes),
     }
 }

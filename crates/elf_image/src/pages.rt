@@ -1,6 +1,6 @@
 //! The pages that segments hold.
 
-ghost use Rattle.std.specs.Prelude.{◌≡◌, ◌&&◌};
+ghost use Rattle.std.specs.Prelude.{◌≡◌, ◌&&◌, is_some};
 ghost use Rattle.erim_defs.specs.Inspection.Image.{is_loadable, segments, touches};
 ghost use Rattle.elf_image.specs.Records.{is_held, is_lying, serves};
 ghost use Rattle.elf_image.specs.Table.{HasTable};
@@ -36,17 +36,29 @@ fn serves(purpose: Purpose, segment: &Segment) -> bool
 }
 
 /// Does the page belong to a segment that serves the purpose?
-#[tactic(auto, using(crate::proofs::PageLemmas::held_begins, crate::proofs::PageLemmas::held_stops, crate::proofs::PageLemmas::held_goes_on, crate::proofs::PageLemmas::held_ends))]
 pub(crate) fn is_held(bytes: &[u8], purpose: Purpose, page: u64) -> bool
     requires { HasTable bytes.now }
     ensures { result ≡ is_held purpose (segments bytes.now) page }
 {
+    holder(bytes, purpose, page, 0).is_some()
+}
+
+// A header to whose segment the page belongs, and which serves the purpose. Pages of a range follow
+// each other, so the header that held the one before is asked first.
+#[tactic(auto, using(crate::proofs::PageLemmas::held_begins, crate::proofs::PageLemmas::held_stops, crate::proofs::PageLemmas::held_goes_on, crate::proofs::PageLemmas::held_ends, crate::proofs::PageLemmas::held_near))]
+fn holder(bytes: &[u8], purpose: Purpose, page: u64, near: u32) -> Option<u32>
+    requires { HasTable bytes.now }
+    ensures { is_some result ≡ is_held purpose (segments bytes.now) page }
+{
+    if near < header_count(bytes) && holds(&Header::read(bytes, near), purpose, page) {
+        return Some(near);
+    }
     for index in 0..header_count(bytes) {
         if holds(&Header::read(bytes, index), purpose, page) {
-            return true;
+            return Some(index);
         }
     }
-    false
+    None
 }
 
 // Does the page belong to the segment of a header, and does it serve the purpose?
@@ -67,9 +79,11 @@ pub(crate) fn is_lying(bytes: &[u8], purpose: Purpose, item: &Record) -> bool
 {
     let first = item.start() / PAGE_SIZE;
     let end = first + item.length() / PAGE_SIZE;
+    let mut near = 0;
     for page in first..end {
-        if !is_held(bytes, purpose, page) {
-            return false;
+        match holder(bytes, purpose, page, near) {
+            Some(header) => near = header,
+            None => return false,
         }
     }
     true

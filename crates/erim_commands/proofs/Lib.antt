@@ -6,4 +6,3 @@ pub mod PromiseLemmas
 pub mod ResultLemmas
 pub mod TextLemmas
 pub mod ReportLemmas
-pub mod RunningLemmas

@@ -1,5 +1,5 @@
 -- Threads by their numbers, and the reply of a run.
-use Rattle.std.proofs.Common.{◌≡◌, ◌∙◌, ℕ, ◌<◌, List, length, Some, sym, ap, subst, refl}
+use Rattle.std.proofs.Common.{◌≡◌, ◌∙◌, ℕ, ◌<◌, List, length, Some, sym, ap, refl}
 use Rattle.std.proofs.lemmas.Option.{slice_get-get_or}
 use Rattle.std.specs.Prelude.{slice_get, slice_index_or}
 use Rattle.erim_io.specs.Store.{Name}
@@ -18,38 +18,19 @@ thread_of threads t thread low is = slice_get-get_or threads t thread low
     ∙ ap Some (sym (is thread))
 
 -- a reply made of a whole run's report, journal and status
-pub run_replied : (given setup : Setup) (journal : Name) (entries : List Entry) (last : State)
-    (status : Status) (text bytes : List ℕ) → setup ≡ given
-    → IsWholeRun setup entries last → status ≡ end_status last.end → text ≡ report entries last
+pub run_replied : (setup : Setup) (journal : Name) (entries : List Entry) (last : State)
+    (status : Status) (text bytes : List ℕ) → IsWholeRun setup entries last
+    → status ≡ end_status last.end → text ≡ report entries last
     → bytes ≡ journal_text (journal_of setup entries)
-    → IsRunReply journal given
-    (record {
+    → IsRunReply journal setup (record {
       status = status;
       text = text;
-      save = Some
-          (record { name = journal; bytes = bytes });
+      save = Some (record { name = journal; bytes = bytes });
     })
-run_replied given setup journal entries last status text bytes same whole status_is text_is
-    bytes_is =
-    let made : IsRunReply journal setup
-    (record {
-      status = status;
-      text = text;
-      save = Some
-          (record { name = journal; bytes = bytes });
-    }) =
+run_replied setup journal entries last status text bytes whole status_is text_is bytes_is =
     record {
       entries = entries;
       last = last;
       whole = whole;
       answer = rw (status_is, text_is, bytes_is) refl;
-    } in
-    let P : Setup → Type 0 =
-    λ s. IsRunReply journal s
-    (record {
-      status = status;
-      text = text;
-      save = Some
-          (record { name = journal; bytes = bytes });
-    }) in
-    subst P same made
+    }

@@ -4,5 +4,4 @@ pub mod Plans
 pub mod Commands
 pub mod Delivery
 pub mod CallParts
-pub mod Running
 pub mod Promises

@@ -1,7 +1,6 @@
 -- What a command answers: a status, a text, and a file to save before the text is written. Own.
 use Rattle.std.specs.Prelude.{◌≡◌, ℕ, Option, Some, None, List, [], ◌∷◌, ◌++◌, codes}
 use Rattle.std.specs.Fmt.{decimal}
-use Rattle.std.specs.List.{AllByRecursion}
 use Rattle.std.specs.Option.{option_map}
 use Rattle.erim_io.specs.Store.{Name}
 use Rattle.erim_defs.specs.declared.found.Found.{Found}
@@ -22,6 +21,8 @@ use Rattle.erim_process.specs.declared.start_fault.StartFault.{StartFault}
 use Rattle.erim_process.specs.declared.start_fault.StartFault.TheVariants.{TrustedUnsafe}
 use Rattle.erim_process.specs.declared.start_fault.StartFault.TheVariants.{TooFewFrames, Memory}
 use Rattle.erim_process.specs.StartFaults.{start_fault}
+use Rattle.thread_runner.specs.Running.{AreAlone}
+use Rattle.isolation.specs.Laws.{AreLawful}
 use Rattle.erim_commands.specs.declared.reply.Status.{Status}
 use Rattle.erim_commands.specs.declared.reply.Status.TheVariants.{Done, AtFault, Spent}
 
@@ -90,19 +91,16 @@ abbrev pub journal_of : Setup → List Entry → JournalValue
 journal_of setup entries =
     record { budget = setup.budget; frames = setup.frames; entries = entries }
 
--- no worker but 0 made a step
-abbrev pub AreAlone : List Entry → Type 0
-AreAlone entries = AllByRecursion (λ (e : Entry). e.worker ≡ 0) entries
-
 -- entries that lead from the setup to an end, or to where the budget is spent. They are a
 -- journal's, and name no worker but 0. Every state of this run, and of each other run from the
--- setup, keeps the isolation invariant.
+-- setup, keeps the isolation invariant, and every step is lawful.
 pub record IsWholeRun (setup : Setup) (entries : List Entry) (last : State) : Type 0 where
   pub runs : replay setup entries ≡ Some last
   pub over : IsOver last
   pub form : IsJournal (journal_of setup entries)
   pub alone : AreAlone entries
   pub isolated : IsIsolated setup
+  pub lawful : AreLawful setup
 
 -- the reply to a run: its report is printed, and its journal saved
 abbrev pub ran_reply : Name → Setup → List Entry → State → Reply

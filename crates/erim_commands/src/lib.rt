@@ -13,7 +13,6 @@ mod journal;
 mod loads;
 mod reply;
 mod report;
-mod schedule;
 mod text;
 mod top_call;
 mod words;

@@ -77,8 +77,8 @@ fn named_fault(alloc: Global, fault: &ImageFault) -> Result<String, AllocError>
         ImageFault::TextNotExec { index } => numbered(alloc, "record", *index, " text"),
         ImageFault::DataRange { index } => numbered(alloc, "record", *index, " data"),
         ImageFault::EntryNotTrusted { index } => numbered(alloc, "record", *index, " entry"),
+        ImageFault::BadFunction { index } => format!(in alloc; "erim: image function {index}\n"),
         ImageFault::EntryPoint => format!(in alloc; "erim: image entry point\n"),
-        ImageFault::NotYet => format!(in alloc; "erim: image not yet\n"),
         // No caller names want of memory, which has a status and no line.
         ImageFault::Memory => format!(in alloc; "erim: out of memory\n"),
     }

@@ -1,8 +1,10 @@
--- What an accepted image says of its trusted text and trusted data: where they lie, what their
--- pages ask, and that the entries lie in trusted text.
-use Rattle.std.proofs.Common.{◌≡◌, ℕ, ◌*◌, ◌/◌, ◌^◌, ◌<◌, true, false, List, [], length, Some, refl}
-use Rattle.std.proofs.Common.{sym, ◌∙◌, inl, inr}
+-- What an accepted image says of its trusted text, trusted data and trusted heaps: where they lie,
+-- what their pages ask, and that the entries lie in trusted text.
+use Rattle.std.proofs.Common.{◌≡◌, ℕ, ◌+◌, ◌*◌, ◌/◌, ◌^◌, ◌<◌, ◌≤◌, true, false, List, [], length}
+use Rattle.std.proofs.Common.{Some, refl, sym, ◌∙◌, inl, inr}
 use Rattle.std.proofs.lemmas.Bool.{both_ways, false_from_ne_true}
+use Rattle.std.specs.List.{All}
+use Rattle.erim_defs.specs.declared.trust.Span.{Span}
 use Rattle.erim_defs.specs.Inspection.Image.{IsAccepted, holds_data, holds_heap, headers}
 use Rattle.erim_defs.specs.Inspection.Image.{holds_text, image_code, image_data, image_heaps}
 use Rattle.erim_defs.specs.Inspection.Image.{image_trust, is_page_of, records, segments}
@@ -13,7 +15,7 @@ use Rattle.erim_defs.proofs.SegmentLemmas.{has_page, users, some_page, IsTextPag
 use Rattle.erim_defs.proofs.SegmentLemmas.{text_page_in_loadable, asked_page, page_asked}
 use Rattle.erim_defs.proofs.RecordLemmas.{text_page_in, text_of_records, text_apart, any_append}
 use Rattle.erim_defs.proofs.RecordLemmas.{data_placed, heap_placed, data_of_records, any_of_append}
-use Rattle.erim_defs.proofs.RecordLemmas.{held_covers, entry_held}
+use Rattle.erim_defs.proofs.RecordLemmas.{held_covers, entry_held, heaps_end_low}
 use Rattle.erim_defs.specs.Machine.Pages.{asks_exec}
 
 -- an address is in trusted text exactly where its page is
@@ -54,6 +56,12 @@ unfolding image_trust
 entries_in image a h there =
     held_covers (records image) a
     (entry_held 0 (records image) [] (records image) a (sound image h).entered there)
+
+-- the ranges of trusted heap end in user memory
+pub heaps_low : (image : List ℕ) → IsAccepted image
+    → All (λ (h : Span). h.start + h.length ≤ 2 ^ 47) (image_heaps image)
+unfolding image_heaps
+heaps_low image h = heaps_end_low 0 [] (records image) (sound image h).recorded
 
 -- a page of trusted text of an image
 pub record IsText (image : List ℕ) (q : ℕ) : Type 0 where

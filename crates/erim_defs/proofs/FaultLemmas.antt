@@ -1,7 +1,6 @@
 -- The faults that an accepted image doesn't have.
 use Rattle.std.proofs.Common.{◌≡◌, ℕ, not, Bool, true, false, cond, List, [], length, Option, Some}
-use Rattle.std.proofs.Common.{None, is_some, refl}
-use Rattle.std.proofs.lemmas.Bool.{or_parts}
+use Rattle.std.proofs.Common.{None, refl}
 use Rattle.erim_defs.specs.Inspection.Code.{or_else}
 use Rattle.erim_defs.specs.Inspection.Image.{IsAccepted, data_fault, entry_fault, first_fault}
 use Rattle.erim_defs.specs.Inspection.Image.{head_fault, header_fault, headers, later_fault}
@@ -13,22 +12,11 @@ pub or_none : {X : Type 0} (x y : Option X) → or_else x y ≡ None → (x ≡ 
 or_none None y h = (refl, h)
 or_none (Some z) y h = absurd cc
 
--- a test that gives no fault is false
-pub cond_none : {X : Type 0} (b : Bool) (x : X) (y : Option X) → cond b (Some x) y ≡ None
-    → (b ≡ false) × (y ≡ None)
-cond_none true x y h = absurd cc
-cond_none false x y h = (refl, h)
-
--- and one that gives a fault where it fails is true
+-- a test that gives a fault where it fails is true
 pub cond_fault : {X : Type 0} (b : Bool) (x : X) (y : Option X) → cond b y (Some x) ≡ None
     → (b ≡ true) × (y ≡ None)
 cond_fault true x y h = (refl, h)
 cond_fault false x y h = absurd cc
-
--- there is none
-none_of : {X : Type 0} (o : Option X) → is_some o ≡ false → o ≡ None
-none_of None h = refl
-none_of (Some x) h = absurd cc
 
 -- what a denial denies
 pub not_true : (b : Bool) → not b ≡ true → b ≡ false
@@ -47,9 +35,7 @@ pub record HasNoFault (image : List ℕ) : Type 0 where
 -- an accepted image has no later fault
 pub later_none : (image : List ℕ) → IsAccepted image → later_fault image ≡ None
 unfolding first_fault
-later_none image h =
-    let late = (or_none (head_fault image) _ h).1 in
-    none_of (later_fault image) (or_parts _ _ (cond_none _ _ None late).0).0
+later_none image h = (or_none (head_fault image) _ h).1
 
 -- in particular none of these
 sound_of : (image : List ℕ) → later_fault image ≡ None → HasNoFault image

@@ -1,8 +1,8 @@
 -- The faults, segments, records and code of the small image and of ones that differ from it in a
 -- byte, computed. ELF-64, "File header", "Program header" and "Note section"; the trust note is
 -- own.
-use Rattle.std.proofs.Common.{◌≡◌, ℕ, List, [], ◌∷◌, ◌++◌, Option, Some, None, take, map}
-use Rattle.std.proofs.Common.{true, false, refl}
+use Rattle.std.proofs.Common.{◌≡◌, ℕ, ◌+◌, List, [], ◌∷◌, ◌++◌, length, Option, Some, None, take}
+use Rattle.std.proofs.Common.{map, true, false, refl}
 use Rattle.std.specs.Prelude.{slice_set}
 use Rattle.erim_defs.specs.declared.fault.ImageFault.{ImageFault}
 use Rattle.erim_defs.specs.declared.fault.ImageFault.TheVariants.{Short, Magic, Class, FileType}
@@ -12,8 +12,9 @@ use Rattle.erim_defs.specs.declared.fault.ImageFault.TheVariants.{SharedPage, No
 use Rattle.erim_defs.specs.declared.fault.ImageFault.TheVariants.{NoteVersion, BadRecord}
 use Rattle.erim_defs.specs.declared.fault.ImageFault.TheVariants.{TextNotExec, DataRange}
 use Rattle.erim_defs.specs.declared.fault.ImageFault.TheVariants.{EntryNotTrusted, EntryPoint}
-use Rattle.erim_defs.specs.declared.fault.ImageFault.TheVariants.{NotYet}
+use Rattle.erim_defs.specs.declared.fault.ImageFault.TheVariants.{BadFunction}
 use Rattle.erim_defs.specs.declared.segment.Segment.{Segment}
+use Rattle.erim_defs.specs.declared.trust.Span.{Span}
 use Rattle.erim_defs.specs.Inspection.Image.{number_at, headers_from, headers, loadable_segments}
 use Rattle.erim_defs.specs.Inspection.Image.{static_fault}
 use Rattle.erim_defs.specs.Inspection.Image.{range_fault, shared_fault, notes_between}
@@ -24,54 +25,47 @@ use Rattle.erim_defs.specs.Inspection.Image.{all_pages, text_fault, data_fault, 
 use Rattle.erim_defs.specs.Inspection.Image.{head_fault}
 use Rattle.erim_defs.specs.Inspection.Image.{header_fault, segment_fault, trust_fault, later_fault}
 use Rattle.erim_defs.specs.Inspection.Image.{first_fault, segments, image_code, image_trust}
-use Rattle.erim_defs.specs.Inspection.Image.{image_data}
+use Rattle.erim_defs.specs.Inspection.Image.{functions_from, functions_in, image_functions}
+use Rattle.erim_defs.specs.Inspection.Image.{function_fault, image_data}
 use Rattle.erim_defs.specs.Inspection.Image.{image_heaps, trusted_code}
+use Rattle.erim_defs.specs.Output.LayImage.{functions_note}
 use Rattle.erim_defs.proofs.SmallMachine.{small_image}
 
 -- the small image with another byte
 abbrev with_byte : ℕ → ℕ → List ℕ
 with_byte place value = slice_set small_image place value
 
--- the first fault by its own name
+-- the first fault, computed
 fault_of : List ℕ → Option ImageFault
 unfolding small_image number_at headers_from headers loadable_segments static_fault range_fault
     shared_fault
     notes_between note_fault_between note_fault notes records_from records_in record_fault all_pages
-    text_fault data_fault entry_fault head_fault header_fault segment_fault trust_fault later_fault
-fault_of image = later_fault image
+    text_fault data_fault entry_fault functions_from functions_in image_functions function_fault
+    head_fault header_fault segment_fault trust_fault later_fault first_fault
+fault_of image = first_fault image
 
--- the fault that is told
-told_fault : List ℕ → Option ImageFault
-unfolding fault_of first_fault
-told_fault image = first_fault image
-
-accepted : told_fault small_image ≡ None
-unfolding told_fault
+accepted : fault_of small_image ≡ None
+unfolding fault_of
 accepted = refl
 
 -- ---- the first bytes
 
 short :
-    told_fault [] ∷ told_fault (take 63 small_image) ∷ [] ≡ Some (Short 0) ∷ Some (Short 63) ∷ []
-unfolding told_fault
+    fault_of [] ∷ fault_of (take 63 small_image) ∷ [] ≡ Some (Short 0) ∷ Some (Short 63) ∷ []
+unfolding fault_of
 short = refl
 
 magic :
-    map (λ place. told_fault (with_byte place 9)) (0 ∷ 1 ∷ 2 ∷ 3 ∷ [])
+    map (λ place. fault_of (with_byte place 9)) (0 ∷ 1 ∷ 2 ∷ 3 ∷ [])
     ≡ Some Magic ∷ Some Magic ∷ Some Magic ∷ Some Magic ∷ []
-unfolding told_fault
+unfolding fault_of
 magic = refl
 
 class :
-    map (λ place. told_fault (with_byte place 9)) (4 ∷ 5 ∷ 6 ∷ [])
+    map (λ place. fault_of (with_byte place 9)) (4 ∷ 5 ∷ 6 ∷ [])
     ≡ Some Class ∷ Some Class ∷ Some Class ∷ []
-unfolding told_fault
+unfolding fault_of
 class = refl
-
--- so far the later ones have one name
-later : told_fault (with_byte 16 3) ≡ Some NotYet
-unfolding told_fault
-later = refl
 
 -- ---- the file header
 
@@ -230,6 +224,76 @@ entry_range :
     ≡ Some (EntryNotTrusted 2) ∷ None ∷ Some (EntryNotTrusted 2) ∷ []
 unfolding fault_of
 entry_range = refl
+
+-- ---- functions, in a functions note behind the trust note, which ends at 652
+
+abbrev function : ℕ → ℕ → Span
+function start length = record { start = start; length = length }
+
+-- p_filesz of the note's header stands at 488
+with_functions : List Span → List ℕ
+unfolding small_image
+with_functions fs =
+    slice_set small_image 488 (124 + length (functions_note fs)) ++ functions_note fs
+
+functions_of : List Span → Option ImageFault
+unfolding fault_of with_functions
+functions_of fs = fault_of (with_functions fs)
+
+-- the last bytes of two file parts, and two functions that meet
+good_functions :
+    map functions_of ([] ∷ (function 0x401000 2 ∷ function 0x402000 9 ∷ [])
+    ∷ (function 0x402000 4 ∷ function 0x402004 5 ∷ []) ∷ [])
+    ≡ None ∷ None ∷ None ∷ []
+unfolding functions_of
+good_functions = refl
+
+-- no bytes; one byte past a file part, also where memory goes on; one byte before a segment; in a
+-- segment that isn't executable; in no segment; from one executable segment into the next
+bad_functions :
+    map (λ f. functions_of (f ∷ [])) (function 0x402004 0 ∷ function 0x401001 2
+    ∷ function 0x402000 10 ∷ function 0x400FFF 2 ∷ function 0x403010 3 ∷ function 0x409000 1
+    ∷ function 0x401000 0x1009 ∷ [])
+    ≡ Some (BadFunction 0) ∷ Some (BadFunction 0) ∷ Some (BadFunction 0) ∷ Some (BadFunction 0)
+    ∷ Some (BadFunction 0) ∷ Some (BadFunction 0) ∷ Some (BadFunction 0) ∷ []
+unfolding functions_of
+bad_functions = refl
+
+-- sums past 2^64 come to 0x402004 and to 0x402003 if they wrap
+wide_functions :
+    map (λ f. functions_of (f ∷ []))
+    (function 0x402004 0xFFFFFFFFFFFFFFFF ∷ function 0xFFFFFFFFFFFFFFFF 0x402004 ∷ [])
+    ≡ Some (BadFunction 0) ∷ Some (BadFunction 0) ∷ []
+unfolding functions_of
+wide_functions = refl
+
+-- out of order, one byte over the one before, the same once more, and of two bad ones the first
+ordered_functions :
+    functions_of (function 0x402000 9 ∷ function 0x401000 2 ∷ [])
+    ∷ functions_of (function 0x402000 5 ∷ function 0x402004 5 ∷ [])
+    ∷ functions_of (function 0x401000 1 ∷ function 0x401000 1 ∷ [])
+    ∷ functions_of (function 0x401000 2 ∷ function 0x402000 0 ∷ function 0x401000 0 ∷ []) ∷ []
+    ≡ Some (BadFunction 1) ∷ Some (BadFunction 1) ∷ Some (BadFunction 1) ∷ Some (BadFunction 1)
+    ∷ []
+unfolding functions_of
+ordered_functions = refl
+
+-- behind the row of entries, and before that of the entry point
+functions_row :
+    let bytes = with_functions (function 0x401000 3 ∷ []) in
+    fault_of (slice_set bytes 613 0x30) ∷ fault_of (slice_set bytes 25 0x30) ∷ []
+    ≡ Some (EntryNotTrusted 2) ∷ Some (BadFunction 0) ∷ []
+unfolding fault_of with_functions
+functions_row = refl
+
+-- the functions as they are told, whatever they are; an image without their note has none
+told_functions :
+    map image_functions
+    (small_image ∷ with_functions []
+    ∷ with_functions (function 0x401000 2 ∷ function 7 0 ∷ []) ∷ [])
+    ≡ [] ∷ [] ∷ (function 0x401000 2 ∷ function 7 0 ∷ []) ∷ []
+unfolding fault_of with_functions
+told_functions = refl
 
 -- e_entry in a page that isn't executable
 entry_point : fault_of (with_byte 25 0x30) ≡ Some EntryPoint

@@ -18,14 +18,19 @@ use Rattle.erim_defs.specs.Machine.Pages.{RightsMap, with_value_at, code_with, a
 use Rattle.erim_defs.specs.Machine.Pages.{published_rights}
 use Rattle.erim_defs.specs.Inspection.Safe.{fits, unsafe_at}
 use Rattle.erim_defs.specs.Machine.State.{State, code}
+use Rattle.erim_defs.specs.Machine.CallResult.{Refusal, Answer, ThreadEnd, Quit, CallResult}
 use Rattle.erim_defs.specs.Inspection.Unsafe.{first_unsafe}
 use Rattle.erim_defs.proofs.FirstUnsafeLemmas.{first_from, first_unsafe_with, bytes_from}
 use Rattle.erim_defs.proofs.SmallMachine.{step_by, state_of, thread_at, caller_at, small_image}
-use Rattle.erim_defs.proofs.SmallMachine.{page, published_page}
+use Rattle.erim_defs.proofs.SmallMachine.{call_by, page, published_page}
 
--- the state after one more step, with this thread
+-- the state after one more step, with these threads
+abbrev after_all : List Thread → State → State
+after_all ts s = record s { steps = 7; threads = ts }
+
+-- with this thread
 abbrev after : Thread → State → State
-after t s = record s { steps = 7; threads = t ∷ [] }
+after t s = after_all (t ∷ []) s
 
 wrpkru : ℕ → Found
 wrpkru a = record { at = a; len = 3; kind = Wrpkru }
@@ -156,6 +161,35 @@ escape_by_an_exit :
 unfolding step_by
 escape_by_an_exit = refl
 
+-- exit(7), of the last live thread
+escape_by_the_end_of_a_thread :
+    let s = state_of (open_thread (caller_at 0x402FFE 60 2 3 6 7 11)) (0x0F ∷ 0x05 ∷ []) in
+    let t = open_thread (caller_at 0x403000 60 0x403000 3 6 7 0x202) in
+    step_by 0 s
+    ≡ Some (record (after (record t { live = false }) s)
+    { escape = escape_at 0x403000; end = Some (Exit 7) })
+unfolding step_by
+escape_by_the_end_of_a_thread = refl
+
+-- clone(0x50F00, 0): the caller is the escape, the new thread none
+escape_by_a_clone :
+    let s = state_of (open_thread (caller_at 0x402FFE 56 2 3 0 0x50F00 11)) (0x0F ∷ 0x05 ∷ []) in
+    let t = open_thread (caller_at 0x403000 2 0x403000 3 0 0x50F00 0x202) in
+    let u = open_thread (caller_at 0x403000 0 0x403000 3 0 0x50F00 0x202) in
+    step_by 0 s ≡ Some (record (after_all (t ∷ u ∷ []) s) { escape = escape_at 0x403000 })
+unfolding step_by
+escape_by_a_clone = refl
+
+-- of thread 1
+escape_of_another_thread :
+    let s = record (state_of (open_at 0x402FFE None) (0x74 ∷ 0x07 ∷ []))
+    { threads = opening 0x401000 ∷ open_at 0x402FFE None ∷ [] } in
+    step_by 1 s
+    ≡ Some (record (after_all (opening 0x401000 ∷ open_at 0x403000 None ∷ []) s)
+    { escape = Some (record { step = 7; thread = 1; rip = 0x403000 }) })
+unfolding step_by opening open_at
+escape_of_another_thread = refl
+
 -- WRPKRU is free, and its origin is kept
 no_escape_by_wrpkru : let s = state_of (open_at 0x402FFD None) (0x0F ∷ 0x01 ∷ 0xEF ∷ []) in
     step_by 0 s ≡ Some (after (open_at 0x403000 (Some (wrpkru 0x402FFD))) s)
@@ -184,6 +218,86 @@ second_escape :
     step_by 0 s ≡ Some (after (open_at 0x403000 None) s)
 unfolding step_by opening open_at
 second_escape = refl
+
+-- ---- threads that are made by clone(0x50F00, stack), and threads that end
+
+-- open, before a clone
+cloning : ℕ → Option Found → Thread
+cloning rip origin =
+    record (caller_at rip 56 2 3 0x7FFE8000 0x50F00 11) { pkru = 0x55555550; origin = origin }
+
+-- the caller behind it
+maker_at : ℕ → Option Found → Thread
+maker_at rip origin =
+    record (caller_at rip 2 rip 3 0x7FFE8000 0x50F00 0x202) { pkru = 0x55555550; origin = origin }
+
+-- the new thread: 0 in RAX, and its own stack
+made_at : ℕ → Option Found → Thread
+unfolding maker_at
+made_at rip origin = record (maker_at rip origin) {
+  regs = 0 ∷ rip ∷ 3 ∷ 3 ∷ 0x7FFE8000 ∷ 5 ∷ 0x7FFE8000 ∷ 0x50F00 ∷ 8 ∷ 9 ∷ 10 ∷ 0x202 ∷ 12 ∷ 13
+      ∷ 14 ∷ 15 ∷ [];
+}
+
+made_in_text : let s = state_of (cloning 0x402010 None) (0x0F ∷ 0x05 ∷ []) in
+    step_by 0 s ≡ Some (after_all (maker_at 0x402012 None ∷ made_at 0x402012 None ∷ []) s)
+unfolding step_by cloning maker_at made_at
+made_in_text = refl
+
+-- a caller that enters trusted text by its clone: no origin, of either
+made_on_entering :
+    let s = state_of (cloning 0x401FFE (Some (wrpkru 0x401000))) (0x0F ∷ 0x05 ∷ []) in
+    step_by 0 s ≡ Some (after_all (maker_at 0x402000 None ∷ made_at 0x402000 None ∷ []) s)
+unfolding step_by cloning maker_at made_at wrpkru
+made_on_entering = refl
+
+-- outside the new thread has the caller's origin
+made_outside :
+    let o = Some (wrpkru 0x401000) in
+    let s = state_of (cloning 0x401003 o) (0x0F ∷ 0x05 ∷ []) in
+    step_by 0 s ≡ Some (after_all (maker_at 0x401005 o ∷ made_at 0x401005 o ∷ []) s)
+unfolding step_by cloning maker_at made_at wrpkru
+made_outside = refl
+
+-- a thread that ends keeps its origin
+abbrev dead : Thread → Thread
+dead t = record t { live = false }
+
+ended_outside :
+    let o = Some (wrpkru 0x401000) in
+    let t = record (caller_at 0x401003 60 2 3 6 7 11) { pkru = 0x55555550; origin = o } in
+    let u = record (caller_at 0x401005 60 0x401005 3 6 7 0x202)
+    { pkru = 0x55555550; origin = o } in
+    let s = record (state_of t (0x0F ∷ 0x05 ∷ [])) { threads = t ∷ open_at 0x402000 None ∷ [] } in
+    step_by 0 s ≡ Some (after_all (dead u ∷ open_at 0x402000 None ∷ []) s)
+unfolding step_by opening open_at wrpkru
+ended_outside = refl
+
+-- a call's error, if it is refused
+abbrev error_of : CallResult → Option ℕ
+error_of (Refusal e) = Some e
+error_of (Answer value change) = None
+error_of (ThreadEnd status) = None
+error_of (Quit status) = None
+
+-- munmap(0x401000, 4096) where these are the threads
+unmapping : List Thread → Option ℕ
+unfolding call_by opening
+unmapping ts =
+    error_of (call_by (record (state_of (opening 0x401000) []) { threads = ts })
+    (caller_at 0x402012 11 0 0 4096 0x401000 0))
+
+-- EAGAIN (11) where a live thread has its origin there, also one that was made with it; an ended
+-- thread pins nothing
+pinned_by_live_threads :
+    let t = open_at 0x401003 (Some (wrpkru 0x401000)) in
+    let maker = maker_at 0x401005 (Some (wrpkru 0x401000)) in
+    let made = made_at 0x401005 (Some (wrpkru 0x401000)) in
+    map unmapping ((t ∷ []) ∷ (dead t ∷ []) ∷ (opening 0x401003 ∷ t ∷ [])
+    ∷ (dead maker ∷ made ∷ []) ∷ (dead maker ∷ dead made ∷ []) ∷ [])
+    ≡ Some 11 ∷ None ∷ Some 11 ∷ Some 11 ∷ None ∷ []
+unfolding unmapping opening open_at maker_at made_at wrpkru
+pinned_by_live_threads = refl
 
 -- ---- publication
 

@@ -12,6 +12,7 @@ pub mod FaultLemmas
 pub mod FirstUnsafeLemmas
 mod FlagRows
 mod GateRows
+mod HeapCallRows
 pub mod ImageLemmas
 mod ImageRows
 mod InsnRows
@@ -40,6 +41,7 @@ mod StartRows
 mod StepRows
 pub mod TextLemmas
 mod TextRows
+mod ThreadCallRows
 mod TrustedRows
 pub mod UnsafeLemmas
 mod WordRows

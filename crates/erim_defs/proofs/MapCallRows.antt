@@ -8,7 +8,7 @@ use Rattle.erim_defs.specs.declared.found.Found.{Found}
 use Rattle.erim_defs.specs.declared.found.SeqKind.TheVariants.{Wrpkru}
 use Rattle.erim_defs.specs.declared.machine.Rights.{Rights}
 use Rattle.erim_defs.specs.declared.machine.Thread.{Thread}
-use Rattle.erim_defs.specs.Machine.CallResult.{Refusal, Answer, Quit, CallResult}
+use Rattle.erim_defs.specs.Machine.CallResult.{Refusal, Answer, ThreadEnd, Quit, CallResult}
 use Rattle.erim_defs.specs.Machine.Count.{mapped, count_below}
 use Rattle.erim_defs.specs.Machine.MapCalls.{mmap_anywhere, mmap_at, range_of}
 use Rattle.erim_defs.specs.Machine.MapCalls.{any_below, is_pinned}
@@ -36,6 +36,7 @@ abbrev pages_of : CallResult → Told
 pages_of (Refusal e) = Refused e
 pages_of (Answer v c) =
     Pages v (map c.rights six_pages) (map c.bytes (0x403041 ∷ 0x406041 ∷ []))
+pages_of (ThreadEnd status) = Refused 0
 pages_of (Quit status) = Refused 0
 
 taken : (ℕ → Bool) → ℕ → List ℕ
@@ -45,6 +46,7 @@ taken keys (suc n) = if keys n then n ∷ taken keys n else taken keys n
 abbrev keys_of : CallResult → Told
 keys_of (Refusal e) = Refused e
 keys_of (Answer v c) = Keys v (taken c.keys 16) c.pkru
+keys_of (ThreadEnd status) = Refused 0
 keys_of (Quit status) = Refused 0
 
 -- ---- the state, and its callers
@@ -215,7 +217,7 @@ unfolding still_pages open_caller caller
 keys_of_pages = refl
 
 -- a key that isn't taken is EINVAL, before protection; the trusted key is closed to a closed caller,
--- and so are its pages (row 15: pkey_mprotect of trusted data with key 0)
+-- and so are its pages, also for key 0
 pkey_mprotect_refused :
     pkey_mprotect 0x403000 4096 1 2 ∷ pkey_mprotect 0x403000 4096 1 16
     ∷ pkey_mprotect 0x402000 4096 1 2 ∷ pkey_mprotect 0x403000 4096 1 1
@@ -237,7 +239,7 @@ with_taken : (ℕ → Bool) → State
 unfolding still
 with_taken keys = record still { keys = keys }
 
--- the least key from 2 on; its AD and WD become bits 0 and 1, and the other keys' stay (row 26)
+-- the least key from 2 on; its AD and WD become bits 0 and 1, and the other keys' stay
 allocated_keys :
     map (λ bits. keys_told (with_taken (λ k. nat_lt k 2)) (caller 330 0 bits 0 0))
     (0 ∷ 1 ∷ 2 ∷ 3 ∷ [])

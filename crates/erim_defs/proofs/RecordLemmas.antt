@@ -3,10 +3,12 @@
 use Rattle.std.proofs.Common.{◌≡◌, ℕ, zero, suc, ◌+◌, ◌*◌, ◌/◌, ◌%◌, ◌^◌, ◌<◌, ◌≤◌, ◌⊎◌, ◌&&◌, ◌||◌}
 use Rattle.std.proofs.Common.{not, Bool, true, false, cond, eqb, ltb, leb, List, [], ◌∷◌, ◌++◌}
 use Rattle.std.proofs.Common.{None, refl, ap, arith, inl, inr, eqb-true, leb-true, ltb-true, lt-ltb}
-use Rattle.std.specs.List.{list_any}
+use Rattle.std.specs.List.{All, list_any}
 use Rattle.std.proofs.lemmas.Bool.{cases_Bool, cases_lt, and_parts, and_from, or_parts, or_cases}
 use Rattle.std.proofs.lemmas.Bool.{or_right, both_ways, false_from_ne_true, le-leb}
+use Rattle.std.proofs.lemmas.List.Elements.{All-cons, All-nil}
 use Rattle.erim_defs.specs.declared.segment.Segment.{Segment}
+use Rattle.erim_defs.specs.declared.trust.Span.{Span}
 use Rattle.erim_defs.specs.Inspection.Image.{data_fault, holds_data, holds_heap, is_placed_data}
 use Rattle.erim_defs.specs.Inspection.Image.{is_placed_entry, is_placed_text, Record, all_pages}
 use Rattle.erim_defs.specs.Inspection.Image.{entry_fault, holds_address, holds_text}
@@ -323,4 +325,30 @@ entry_held index all seen (r ∷ rs) a h there =
                 let held : list_any (holds_address r.start) all ≡ true = rw on at k.0 in
                 rw (← place) held)
           ]
+    ]
+
+-- ---- heaps are in user memory
+
+whole_low : (seen : List Record) (r : Record) → is_whole_range seen r ≡ true
+    → r.start + r.length ≤ 2 ^ 47
+whole_low seen r h =
+    let a = and_parts (eqb (r.start % 4096) 0) _ h in
+    let b = and_parts (eqb (r.length % 4096) 0) _ a.1 in
+    let c = and_parts (ltb 0 r.length) _ b.1 in
+    leb-true _ _ (and_parts (leb (r.start + r.length) (2 ^ 47)) _ c.1).0
+
+heap_other : (r : Record) → eqb r.kind 4 ≡ true → is_entry_record r ≡ false
+heap_other r heap = let four : r.kind ≡ 4 = eqb-true _ _ heap in rw four refl
+
+pub heaps_end_low : (index : ℕ) (seen rs : List Record) → record_fault index seen rs ≡ None
+    → All (λ (h : Span). h.start + h.length ≤ 2 ^ 47) (spans_of (λ r. eqb r.kind 4) rs)
+unfolding record_fault
+heaps_end_low index seen [] h = All-nil (λ (h : Span). h.start + h.length ≤ 2 ^ 47)
+heaps_end_low index seen (r ∷ rs) h =
+    let k = cond_fault (is_record seen r) _ (record_fault (index + 1) (r ∷ seen) rs) h in
+    let rest = heaps_end_low (index + 1) (r ∷ seen) rs k.1 in
+    elim (cases_Bool (eqb r.kind 4)) [
+      | inr off ↦ rw off rest
+      | inl on ↦ rw on (All-cons (λ (h : Span). h.start + h.length ≤ 2 ^ 47) (span_of r) _
+          (whole_low seen r (whole_of seen r k.0 (heap_other r on))) rest)
     ]

@@ -10,7 +10,7 @@ use Rattle.erim_defs.specs.declared.machine.Rights.{Rights}
 use Rattle.erim_defs.specs.declared.machine.Flags.{Flags}
 use Rattle.erim_defs.specs.declared.machine.Entry.{Entry}
 use Rattle.erim_defs.specs.Inspection.Code.{laid_at}
-use Rattle.erim_defs.specs.Machine.State.{Setup, State}
+use Rattle.erim_defs.specs.Machine.State.{Setup, State, any_live}
 use Rattle.erim_defs.specs.Machine.Pages.{RightsMap, ByteMap, word, with_number, bytes_of_range}
 use Rattle.erim_defs.specs.Machine.Pages.{code_bytes}
 use Rattle.erim_defs.specs.Machine.Access.{opens, opens_write, stop}
@@ -31,10 +31,14 @@ use Rattle.erim_defs.specs.Output.LayImage.{Piece, Mark, program_header, file_he
 use Rattle.erim_defs.specs.Machine.CallResult.{CallResult}
 use Rattle.erim_defs.specs.Machine.Calls.{write_result, call_result}
 use Rattle.erim_defs.specs.Machine.Count.{count_below}
+use Rattle.erim_defs.specs.Machine.HeapCalls.{talloc_result, tfree_result, with_block}
+use Rattle.erim_defs.specs.Machine.HeapCalls.{without_block}
+use Rattle.erim_defs.specs.Machine.ThreadCalls.{clone_result, gettid_result, sched_yield_result}
 use Rattle.erim_defs.specs.Machine.MapCalls.{any_below, least_below, is_pinned, mmap_result}
 use Rattle.erim_defs.specs.Machine.MapCalls.{munmap_result, mprotect_result}
 use Rattle.erim_defs.specs.Machine.MapCalls.{pkey_mprotect_result, pkey_alloc_result}
 use Rattle.erim_defs.specs.Machine.MapCalls.{pkey_free_result, with_key_rights}
+use Rattle.erim_defs.specs.Machine.ThreadCalls.{clone_result, gettid_result, sched_yield_result}
 use Rattle.erim_defs.specs.Encoding.Decoding.{row_at, modrm_follows, sooner_stop, operand_len}
 use Rattle.erim_defs.specs.Encoding.Decoding.{stop_of, least_modrm}
 use Rattle.erim_defs.specs.Encoding.Decoding.{modrm_stop, without_modrm_at, behind_modrm_at}
@@ -174,6 +178,7 @@ state_of t bytes = record {
   bytes = bytes_at t.rip bytes;
   threads = t ∷ [];
   keys = λ k. nat_lt k 2;
+  blocks = [];
   output = [];
   end = None;
   steps = 6;
@@ -201,7 +206,7 @@ unfolding step fetch ones small_image row_at modrm_follows sooner_stop operand_l
     plan_jcc
     plan_call plan_jmp_to plan_call_to plan_ret plan_xadd plan_cmpxchg plan_wrpkru plan_rdpkru
     plan_xrstor on_numbers plan
-    write_result call_result
+    write_result clone_result gettid_result sched_yield_result any_live call_result
 step_by t s = step t s
 
 unfoldable pub loaded_by : Setup → State
@@ -219,5 +224,6 @@ unfoldable pub call_by : State → Thread → CallResult
 unfolding small_image number_at headers_from headers loadable_segments notes_between notes
     records_from records_in image_trust opens stop bytes_of_range any_below least_below is_pinned
     write_result mmap_result munmap_result mprotect_result pkey_mprotect_result pkey_alloc_result
-    pkey_free_result with_key_rights count_below call_result
+    pkey_free_result with_key_rights count_below clone_result gettid_result sched_yield_result
+    image_heaps with_block without_block talloc_result tfree_result call_result
 call_by s t = call_result s 0 t

@@ -9,7 +9,7 @@ use Rattle.erim_defs.specs.declared.fault.ImageFault.TheVariants.{SharedPage, No
 use Rattle.erim_defs.specs.declared.fault.ImageFault.TheVariants.{NoteVersion, BadRecord}
 use Rattle.erim_defs.specs.declared.fault.ImageFault.TheVariants.{TextNotExec, DataRange}
 use Rattle.erim_defs.specs.declared.fault.ImageFault.TheVariants.{EntryNotTrusted, EntryPoint}
-use Rattle.erim_defs.specs.declared.fault.ImageFault.TheVariants.{NotYet}
+use Rattle.erim_defs.specs.declared.fault.ImageFault.TheVariants.{BadFunction}
 use Rattle.erim_defs.specs.declared.fault.ImageFault.{ImageFault}
 use Rattle.erim_defs.specs.declared.found.Found.{Found}
 use Rattle.erim_defs.specs.declared.found.SeqKind.TheVariants.{Wrpkru}
@@ -58,8 +58,8 @@ faults =
     row (TextNotExec 5) (codes "image record 5 text") ∷
     row (DataRange 6) (codes "image record 6 data") ∷
     row (EntryNotTrusted 7) (codes "image record 7 entry") ∷
-    row EntryPoint (codes "image entry point") ∷
-    row NotYet (codes "image not yet") ∷ []
+    row (BadFunction 8) (codes "image function 8") ∷
+    row EntryPoint (codes "image entry point") ∷ []
 
 fault_texts : map (λ (r : Row). fault_text r.fault) faults ≡ map (λ (r : Row). r.text) faults
 unfolding digits faults

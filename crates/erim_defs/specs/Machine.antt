@@ -11,6 +11,8 @@ pub mod State
 pub mod CallResult
 pub mod Start
 pub mod MapCalls
+pub mod ThreadCalls
+pub mod HeapCalls
 pub mod Calls
 pub mod Step
 pub mod Replay

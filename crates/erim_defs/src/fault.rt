@@ -40,10 +40,11 @@ pub enum ImageFault {
     DataRange { index: u32 },
     /// An entry lies outside of trusted text.
     EntryNotTrusted { index: u32 },
+    /// A function has no bytes, isn't within the file part of one executable segment, or starts
+    /// below the end of the one before it.
+    BadFunction { index: u32 },
     /// The entry point lies in no page of an executable segment.
     EntryPoint,
-    /// The image has a form that isn't read yet.
-    NotYet,
     /// Memory ran out.
     Memory,
 }

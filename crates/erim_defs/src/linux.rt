@@ -12,6 +12,18 @@ pub const SYS_MPROTECT: u64 = 10;
 /// The number of munmap(2).
 pub const SYS_MUNMAP: u64 = 11;
 
+/// The number of sched_yield(2).
+pub const SYS_SCHED_YIELD: u64 = 24;
+
+/// The number of clone(2).
+pub const SYS_CLONE: u64 = 56;
+
+/// The number of exit(2), by its thread alone.
+pub const SYS_EXIT: u64 = 60;
+
+/// The number of gettid(2).
+pub const SYS_GETTID: u64 = 186;
+
 /// The number of exit_group(2).
 pub const SYS_EXIT_GROUP: u64 = 231;
 
@@ -23,6 +35,12 @@ pub const SYS_PKEY_ALLOC: u64 = 330;
 
 /// The number of pkey_free(2).
 pub const SYS_PKEY_FREE: u64 = 331;
+
+/// The number of talloc, which is own.
+pub const SYS_TALLOC: u64 = 1000;
+
+/// The number of tfree, which is own.
+pub const SYS_TFREE: u64 = 1001;
 
 /// The operation isn't permitted (errno(3)).
 pub const EPERM: u16 = 1;
@@ -70,6 +88,12 @@ pub const LOWEST_FIXED: u64 = 0x10000;
 
 /// The page from which on pages are mapped without MAP_FIXED.
 pub const LOWEST_FREE_PAGE: u64 = 0x10000;
+
+// ---- clone(2)
+
+/// The flags of a thread: CLONE_VM, CLONE_FS, CLONE_FILES, CLONE_SIGHAND, CLONE_THREAD and
+/// CLONE_SYSVSEM.
+pub const CLONE_FLAGS: u64 = 0x50F00;
 
 // ---- pkeys(7)
 

@@ -21,7 +21,10 @@ pub const RECORD_SIZE: usize = 24;
 pub const FUNCTIONS_NOTE: u32 = 2;
 
 /// How many bytes a function takes: start and length of 8 bytes each.
-pub const FUNCTION_SIZE: u64 = 16;
+pub const FUNCTION_SIZE: usize = 16;
+
+/// The place of the length in a function, of which the start, at 0, is the first field.
+pub const FUNCTION_LENGTH: usize = 8;
 
 // The places of the fields in a record, of which the kind, at 0, is the first.
 

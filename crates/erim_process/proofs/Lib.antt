@@ -1,7 +1,5 @@
 pub mod FetchLemmas
-pub mod ReadableLemmas
 pub mod PushLemmas
-pub mod WriteLemmas
 pub mod CallLemmas
 pub mod LoadLemmas
 pub mod SegmentLemmas

@@ -1,8 +1,9 @@
--- The thread that makes a step stays live.
-use Rattle.std.proofs.Common.{◌≡◌, ℕ, zero, suc, ◌-◌, ◌+◌, ◌/◌, ◌^◌, ◌&&◌, ◌++◌, Bool, true, false}
+-- A process that hasn't ended has a live thread.
+use Rattle.std.proofs.Common.{◌≡◌, ℕ, zero, suc, ◌-◌, ◌+◌, ◌/◌, ◌^◌, ◌&&◌, ◌||◌, ◌++◌, Bool, true, false}
 use Rattle.std.proofs.Common.{cond, ltb, List, [], ◌∷◌, Option, Some, None, refl, sym, ap}
 use Rattle.std.proofs.Common.{subst, ◌∙◌, inl, inr}
-use Rattle.std.specs.Prelude.{is_none, slice_get, slice_set}
+use Rattle.std.specs.Prelude.{is_none, slice_get, slice_set, IsNone}
+use Rattle.std.specs.List.{list_any}
 use Rattle.std.proofs.lemmas.Bool.{cases_Bool}
 use Rattle.erim_defs.specs.declared.machine.Rights.{Rights}
 use Rattle.erim_defs.specs.declared.machine.Thread.{Thread}
@@ -20,16 +21,23 @@ use Rattle.erim_defs.specs.Machine.Plan.{bytes_after_write}
 use Rattle.erim_defs.specs.Machine.Registers.{with_register}
 use Rattle.erim_defs.specs.Machine.Meaning.{plan}
 use Rattle.erim_defs.specs.Machine.State.{State, any_live, code, with_origin, trust_of}
-use Rattle.erim_defs.specs.Machine.CallResult.{Refusal, Answer, Quit, CallResult}
+use Rattle.erim_defs.specs.Machine.CallResult.{Refusal, Answer, ThreadEnd, Quit}
+use Rattle.erim_defs.specs.Machine.CallResult.{CallResult}
 use Rattle.erim_defs.specs.Machine.Calls.{call_result}
 use Rattle.erim_defs.specs.Machine.Step.{is_free, step, after_move, after_instruction, after_call}
 use Rattle.erim_defs.specs.Machine.Step.{after_fetch, sequence_of, with_new_thread, caller_after}
 use Rattle.erim_defs.specs.Machine.Step.{with_change, behind_syscall, after_verdict}
 use Rattle.erim_defs.specs.Machine.Step.{after_exec_fault, ready_thread, after_step_of, if_live}
-use Rattle.erim_defs.specs.Machine.Step.{fetch, Runner}
+use Rattle.erim_defs.specs.Machine.Step.{fetch, Runner, with_end, with_last_end}
+use Rattle.erim_defs.specs.declared.machine.End.TheVariants.{Exit}
 use Rattle.erim_defs.proofs.PlanLemmas.{done_goes}
 
 -- ---- threads in a list
+
+pub any_live_is : (ts : List Thread) → list_any (λ (t : Thread). t.live) ts ≡ any_live ts
+unfolding any_live
+any_live_is [] = refl
+any_live_is (t ∷ ts) = ap (λ b. t.live || b) (any_live_is ts)
 
 -- a thread that is live
 any_live_at : (ts : List Thread) (t : ℕ) (old : Thread) → slice_get ts t ≡ Some old
@@ -95,13 +103,24 @@ made_live : (o : Option Thread) (s : State) → any_live s.threads ≡ true
 made_live None s h = h
 made_live (Some u) s h = any_live_more s.threads (with_origin (trust_of s) None u ∷ []) h
 
--- a reply, the end of the process too
-replied_live : (r : CallResult) (t : ℕ) (old new : Thread) (s : State)
+-- a process that hasn't ended has a live thread
+abbrev IsAlive : State → Type 0
+IsAlive s = IsNone s.end → any_live s.threads ≡ true
+
+-- the end of a thread, of the last one too
+last_alive : (status : ℕ) (s : State) → IsAlive (with_last_end status s)
+last_alive status s = elim (cases_Bool (any_live s.threads)) [
+  | inl on ↦ rw on (λ none. on)
+  | inr off ↦ rw off (λ none. absurd (let k : true ≡ false = none in cc))
+]
+
+-- what came of a call
+replied_alive : (r : CallResult) (t : ℕ) (old new : Thread) (s : State)
     → slice_get s.threads t ≡ Some old → new.live ≡ true
-    → any_live (after_call r (record { number = t; thread = old }) new s).threads ≡ true
-replied_live (Refusal e) t old new s here live =
-    went_live t old (with_register new 0 (2 ^ 64 - e)) None false s here live
-replied_live (Answer v c) t old new s here live =
+    → IsAlive (after_call r (record { number = t; thread = old }) new s)
+replied_alive (Refusal e) t old new s here live =
+    λ none. went_live t old (with_register new 0 (2 ^ 64 - e)) None false s here live
+replied_alive (Answer v c) t old new s here live =
     let changed : State = with_change c s in
     let moved : State = after_move (record {
       runner = record { number = t; thread = old };
@@ -109,8 +128,16 @@ replied_live (Answer v c) t old new s here live =
       executed = None;
       free = false;
     }) changed in
-    made_live c.made moved (went_live t old (caller_after v c new) None false changed here live)
-replied_live (Quit code) t old new s here live = went_live t old new None false s here live
+    λ none. made_live c.made moved
+    (went_live t old (caller_after v c new) None false changed here live)
+replied_alive (ThreadEnd status) t old new s here live = last_alive status (after_move (record {
+  runner = record { number = t; thread = old };
+  after = record new { live = false };
+  executed = None;
+  free = false;
+}) s)
+replied_alive (Quit code) t old new s here live =
+    λ none. went_live t old new None false s here live
 
 -- a page that is judged
 judged_live : (o : Option Found) (q : ℕ) (r : Rights) (t : Runner) (s : State)
@@ -130,34 +157,35 @@ fault_live (Some r) x t s h = elim (cases_Bool (asks_exec r.asked && ltb (x / 40
 ]
 
 -- an instruction
-did_live : (d : Effect) (insn : Insn) (len skip t : ℕ) (old : Thread) (s : State)
+did_alive : (d : Effect) (insn : Insn) (len skip t : ℕ) (old : Thread) (s : State)
     → effect (plan insn len old) (whole s.rights) s.bytes old.pkru old.rip ≡ d
     → slice_get s.threads t ≡ Some old → old.live ≡ true
-    → any_live (after_instruction d (record { insn = insn; len = len; skip = skip })
-    (record { number = t; thread = old }) s).threads ≡ true
-did_live (Done new w) insn len skip t old s h here live =
-    went_live t old new (sequence_of (record { insn = insn; len = len; skip = skip }) old.rip)
-    (is_free insn old) (record s { bytes = bytes_after_write w s.bytes }) here
+    → IsAlive (after_instruction d (record { insn = insn; len = len; skip = skip })
+    (record { number = t; thread = old }) s)
+did_alive (Done new w) insn len skip t old s h here live =
+    λ none. went_live t old new
+    (sequence_of (record { insn = insn; len = len; skip = skip }) old.rip) (is_free insn old)
+    (record s { bytes = bytes_after_write w s.bytes }) here
     (done_live insn len old new w (whole s.rights) s.bytes old.pkru old.rip h ∙ live)
-did_live (Stopped (Fault cause a)) insn len skip t old s h here live =
-    any_live_at s.threads t old here live
-did_live (Stopped (Missing q)) insn len skip t old s h here live =
-    any_live_at s.threads t old here live
-did_live Called insn len skip t old s h here live =
-    replied_live (call_result s t (behind_syscall len old)) t old (behind_syscall len old) s here
+did_alive (Stopped (Fault cause a)) insn len skip t old s h here live =
+    λ none. any_live_at s.threads t old here live
+did_alive (Stopped (Missing q)) insn len skip t old s h here live =
+    λ none. any_live_at s.threads t old here live
+did_alive Called insn len skip t old s h here live =
+    replied_alive (call_result s t (behind_syscall len old)) t old (behind_syscall len old) s here
     live
 
 -- a step without its guard
-moved_live : (x : FetchOutcome) (t : ℕ) (old : Thread) (s : State)
+moved_alive : (x : FetchOutcome) (t : ℕ) (old : Thread) (s : State)
     → slice_get s.threads t ≡ Some old → old.live ≡ true
-    → any_live (after_fetch x (record { number = t; thread = old }) s).threads ≡ true
-moved_live (Runs insn len skip) t old s here live =
-    did_live (effect (plan insn len old) (whole s.rights) s.bytes old.pkru old.rip) insn len skip t
-    old s refl here live
-moved_live (Need x) t old s here live =
-    fault_live (s.rights (x / 4096)) x (record { number = t; thread = old }) s
+    → IsAlive (after_fetch x (record { number = t; thread = old }) s)
+moved_alive (Runs insn len skip) t old s here live =
+    did_alive (effect (plan insn len old) (whole s.rights) s.bytes old.pkru old.rip) insn len skip
+    t old s refl here live
+moved_alive (Need x) t old s here live =
+    λ none. fault_live (s.rights (x / 4096)) x (record { number = t; thread = old }) s
     (any_live_at s.threads t old here live)
-moved_live Wrong t old s here live = any_live_at s.threads t old here live
+moved_alive Wrong t old s here live = λ none. any_live_at s.threads t old here live
 
 -- ---- the thread that makes a step
 
@@ -182,18 +210,35 @@ runner_is s t old e = elim (cases_Bool (is_none s.end && ltb s.steps s.setup.bud
 ]
 
 -- a step, by the thread that runs
-by_live : (o : Option Thread) (t : ℕ) (s new : State) → ready_thread s t ≡ o
-    → after_step_of o t s ≡ Some new → any_live new.threads ≡ true
-by_live None t s new runs e = absurd cc
-by_live (Some old) t s new runs e =
+by_alive : (o : Option Thread) (t : ℕ) (s new : State) → ready_thread s t ≡ o
+    → after_step_of o t s ≡ Some new → IsAlive new
+by_alive None t s new runs e = absurd cc
+by_alive (Some old) t s new runs e =
     let later : State = record s { steps = s.steps + 1 } in
     let here = runner_is s t old runs in
     let same : after_fetch (fetch (code s) old.rip) (record { number = t; thread = old }) later
     ≡ new = cc in
-    subst (λ (x : State). any_live x.threads
-    ≡ true) same (moved_live (fetch (code s) old.rip) t old later here.0 here.1)
+    subst IsAlive same (moved_alive (fetch (code s) old.rip) t old later here.0 here.1)
 
--- after a step some thread is live
-pub step_live : (t : ℕ) (s new : State) → step t s ≡ Some new → any_live new.threads ≡ true
+-- after a step some thread is live, unless the process has ended
+pub step_live : (t : ℕ) (s new : State) → step t s ≡ Some new → IsNone new.end
+    → any_live new.threads ≡ true
 unfolding step
-step_live t s new e = by_live (ready_thread s t) t s new refl e
+step_live t s new e = by_alive (ready_thread s t) t s new refl e
+
+-- the end of the last thread ends the process
+pub last_call : (status : ℕ) (s moved : State) → s ≡ moved
+    → list_any (λ (t : Thread). t.live) s.threads ≡ false
+    → with_end (Exit status) s ≡ with_last_end status moved
+last_call status s moved same none =
+    let off : any_live moved.threads ≡ false = ap (λ (x : State). any_live x.threads) (sym same)
+    ∙ sym (any_live_is s.threads) ∙ none in
+    rw off (ap (with_end (Exit status)) same)
+
+-- the end of another doesn't
+pub other_call : (status : ℕ) (s moved : State) → s ≡ moved
+    → list_any (λ (t : Thread). t.live) s.threads ≡ true → s ≡ with_last_end status moved
+other_call status s moved same some =
+    let on : any_live moved.threads ≡ true = ap (λ (x : State). any_live x.threads) (sym same)
+    ∙ sym (any_live_is s.threads) ∙ some in
+    rw on same

@@ -15,13 +15,14 @@ use Rattle.erim_defs.specs.Inspection.Image.{image_trust}
 use Rattle.erim_defs.specs.Inspection.Unsafe.{first_unsafe}
 use Rattle.erim_defs.specs.Machine.Plan.{Effect, Done, Stopped, Called, effect}
 use Rattle.erim_defs.specs.Machine.Meaning.{plan}
-use Rattle.erim_defs.specs.Machine.State.{Setup, State, code}
-use Rattle.erim_defs.specs.Machine.CallResult.{Refusal, Answer, Quit, CallResult}
+use Rattle.erim_defs.specs.Machine.State.{Setup, State, any_live, code}
+use Rattle.erim_defs.specs.Machine.CallResult.{Refusal, Answer, ThreadEnd, Quit}
+use Rattle.erim_defs.specs.Machine.CallResult.{CallResult}
 use Rattle.erim_defs.specs.Machine.Calls.{call_result}
 use Rattle.erim_defs.specs.Machine.Step.{step, after_move, after_instruction, after_call}
 use Rattle.erim_defs.specs.Machine.Step.{after_fetch, with_new_thread, caller_after, with_change}
 use Rattle.erim_defs.specs.Machine.Step.{behind_syscall, after_verdict, after_exec_fault}
-use Rattle.erim_defs.specs.Machine.Step.{ready_thread, after_step_of, fetch, Runner}
+use Rattle.erim_defs.specs.Machine.Step.{ready_thread, after_step_of, fetch, Runner, with_last_end}
 use Rattle.erim_defs.specs.Machine.Start.{first_state}
 use Rattle.erim_process.specs.Ends.{IfRefused}
 
@@ -50,7 +51,14 @@ low_made : (o : Option Thread) (s : State) → IsLow s → IsLow (with_new_threa
 low_made None s h = h
 low_made (Some u) s h = h
 
--- a reply
+-- the end of a thread
+low_last : (status : ℕ) (s : State) → IsLow s → IsLow (with_last_end status s)
+low_last status s h = elim (cases_Bool (any_live s.threads)) [
+  | inl on ↦ rw on h
+  | inr off ↦ rw off tt
+]
+
+-- what came of a call
 low_replied : (r : CallResult) (t : ℕ) (old new : Thread) (s : State) → IsLow s
     → IsLow (after_call r (record { number = t; thread = old }) new s)
 low_replied (Refusal e) t old new s h = h
@@ -62,6 +70,12 @@ low_replied (Answer v c) t old new s h =
       executed = None;
       free = false;
     }) (with_change c s)) h
+low_replied (ThreadEnd status) t old new s h = low_last status (after_move (record {
+  runner = record { number = t; thread = old };
+  after = record new { live = false };
+  executed = None;
+  free = false;
+}) s) h
 low_replied (Quit code) t old new s h = tt
 
 -- an instruction

@@ -9,6 +9,7 @@ use Rattle.std.proofs.Common.{Bool, true, false, List, [], ◌∷◌, Option, So
 use Rattle.std.proofs.Common.{ap, sym, subst, ◌∙◌, refl}
 use Rattle.erim_defs.specs.declared.found.Found.{Found}
 use Rattle.erim_defs.specs.declared.machine.Thread.{Thread}
+use Rattle.erim_defs.specs.declared.trust.Span.{Span}
 use Rattle.erim_defs.specs.Machine.Pages.{RightsMap, ByteMap}
 use Rattle.erim_defs.specs.Machine.State.{Setup, State, any_live}
 use Rattle.erim_defs.specs.Output.Journal.{AreEntries}
@@ -52,13 +53,14 @@ trusted_first image c text r laid part first =
     first_is (image_trust image) (text_of (image_trust image) (image_code image)) r
     (rw (part, laid) at first)
 
-abbrev start_state : Setup → RightsMap → ByteMap → List Thread → List ℕ → State
-start_state setup rights bytes threads output = record {
+abbrev start_state : Setup → RightsMap → ByteMap → List Thread → List Span → List ℕ → State
+start_state setup rights bytes threads blocks output = record {
   setup = setup;
   rights = rights;
   bytes = bytes;
   threads = threads;
   keys = λ k. has_bit 3 k;
+  blocks = blocks;
   output = output;
   end = None;
   steps = 0;
@@ -66,20 +68,22 @@ start_state setup rights bytes threads output = record {
 }
 
 pub loaded_is : (setup : Setup) (rights : RightsMap) (bytes : ByteMap) (threads : List Thread)
-    (output : List ℕ)
+    (blocks : List Span) (output : List ℕ)
     → rights ≡ first_rights setup → bytes ≡ image_byte setup.image
-    → threads ≡ first_thread setup ∷ [] → output ≡ []
-    → start_state setup rights bytes threads output ≡ first_state setup
+    → threads ≡ first_thread setup ∷ [] → blocks ≡ [] → output ≡ []
+    → start_state setup rights bytes threads blocks output ≡ first_state setup
 unfolding first_state
-loaded_is setup rights bytes threads output r b t o =
-    ap (λ (x : RightsMap). start_state setup x bytes threads output) r
-    ∙ ap (λ (x : ByteMap). start_state setup (first_rights setup) x threads output) b
+loaded_is setup rights bytes threads blocks output r b t h o =
+    ap (λ (x : RightsMap). start_state setup x bytes threads blocks output) r
+    ∙ ap (λ (x : ByteMap). start_state setup (first_rights setup) x threads blocks output) b
     ∙ ap (λ (x : List Thread). start_state setup (first_rights setup) (image_byte setup.image) x
-    output) t
+    blocks output) t
+    ∙ ap (λ (x : List Span). start_state setup (first_rights setup) (image_byte setup.image)
+    (first_thread setup ∷ []) x output) h
     ∙ ap (λ (x : List ℕ). start_state setup (first_rights setup) (image_byte setup.image)
-    (first_thread setup ∷ []) x) o
+    (first_thread setup ∷ []) [] x) o
     ∙ ap (λ (x : ℕ → Bool). let s : State = start_state setup (first_rights setup)
-    (image_byte setup.image) (first_thread setup ∷ []) [] in
+    (image_byte setup.image) (first_thread setup ∷ []) [] [] in
     let t : State = record s { keys = x } in t) (fun_ext first_keys)
 
 none_first : {X : Type 0} (x y : Option X) → or_else x y ≡ None → x ≡ None

@@ -1,5 +1,4 @@
 pub mod Machine
-pub mod WriteCall
 pub mod StepFacts
 pub mod ImagePages
 pub mod Ends

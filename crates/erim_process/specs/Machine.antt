@@ -1,11 +1,11 @@
 -- The state that a machine holds.
-use Rattle.std.specs.Prelude.{◌≡◌, ℕ, ◌-◌, ◌^◌, length, vec_capacity, ◌≤◌, slice_set, Bool, Result}
+use Rattle.std.specs.Prelude.{◌≡◌, ℕ, ◌-◌, ◌^◌, slice_set, Bool, Result}
 use Rattle.std.specs.Prelude.{Ok, Err}
 use Rattle.erim_defs.specs.declared.insn.FetchOutcome.{FetchOutcome}
 use Rattle.erim_defs.specs.declared.insn.FetchOutcome.TheVariants.{Runs, Need, Wrong}
 use Rattle.erim_defs.specs.Bits.{has_bit}
 use Rattle.erim_defs.specs.Inspection.Trust.{TrustValue}
-use Rattle.erim_defs.specs.Inspection.Image.{image_trust}
+use Rattle.erim_defs.specs.Inspection.Image.{image_heaps, image_trust}
 use Rattle.erim_defs.specs.declared.machine.Thread.{Thread}
 use Rattle.erim_defs.specs.Machine.State.{Setup, State, first_escape}
 use Rattle.page_store.specs.Answers.{rights_in}
@@ -18,20 +18,22 @@ machine_state g setup m = record {
   setup = setup;
   rights = rights_in (g.seen m.pages);
   bytes = g.bytes m.pages;
-  threads = m.threads.items;
+  threads = m.threads;
   keys = λ k. has_bit m.keys.taken k;
-  output = m.output.items;
+  blocks = m.heap.blocks;
+  output = m.output;
   end = m.end;
   steps = m.steps;
   escape = m.escape;
 }
 
--- the machine of an image with this trust, whose pages have the setup's frames, becomes, as a state,
--- what a function makes of its state
+-- the machine of an image with this trust and these ranges of trusted heap, whose pages have the
+-- setup's frames, becomes, as a state, what a function makes of its state
 abbrev pub Becomes : {P : Type 0} → Ghosts P → TrustValue → Machine P → Machine P → (State → State)
     → Type 0
 Becomes g trust old new f =
     (setup : Setup) → image_trust setup.image ≡ trust → setup.frames ≡ g.frames old.pages
+    → image_heaps setup.image ≡ old.heap.heaps
     → machine_state g setup new ≡ f (machine_state g setup old)
 
 -- thread t is another from now on, and the first escape is kept
@@ -47,10 +49,6 @@ abbrev pub IsBounded : FetchOutcome → ℕ → Type 0
 IsBounded (Runs insn len skip) rip = IsPlaced rip len skip
 IsBounded (Need addr) rip = Unit {0}
 IsBounded Wrong rip = Unit {0}
-
--- there is room for all output
-abbrev pub IsRoomy : {P : Type 0} → Machine P → Type 0
-IsRoomy m = (1048576 ≤ vec_capacity m.output) × (length m.output.items ≤ 1048576)
 
 -- two memories say the same
 abbrev pub SamePages : {P : Type 0} → Ghosts P → P → P → Type 0

@@ -1,5 +1,6 @@
 -- What always holds of a process.
-use Rattle.std.specs.Prelude.{◌≡◌, ◌<◌, ◌≤◌, ◌^◌, Some, IsNone, true, length, vec_len, vec_capacity}
+use Rattle.std.specs.Prelude.{◌≡◌, ◌<◌, ◌≤◌, ◌^◌, Some, IsNone, true, vec_len, vec_capacity}
+use Rattle.erim_defs.specs.Inspection.Image.{image_heaps}
 use Rattle.erim_defs.specs.Machine.Isolation.{IsStartable}
 use Rattle.erim_defs.specs.Output.Journal.{AreEntries}
 use Rattle.erim_defs.specs.Machine.State.{Setup, any_live}
@@ -7,7 +8,7 @@ use Rattle.erim_defs.specs.Machine.Replay.{replay}
 use Rattle.page_store.specs.declared.memory.Memory.{Ghosts}
 use Rattle.page_store.specs.declared.page_list.PageList.{PageList}
 use Rattle.erim_process.specs.Ends.{IfRefused}
-use Rattle.erim_process.specs.Machine.{machine_state, IsRoomy}
+use Rattle.erim_process.specs.Machine.{machine_state}
 use Rattle.erim_process.specs.ProcessValue.{ProcessValue}
 use Rattle.erim_process.specs.declared.setup.Setup.{Setup as Given}
 use Rattle.erim_process.specs.declared.process.Process.TheInside.{Inside}
@@ -28,9 +29,8 @@ pub record IsReplay (g : Ghosts PageList) (p : Inside) : Type 0 where
   pub room : p.setup.budget ≤ vec_capacity p.journal
   pub within : p.machine.steps ≤ p.setup.budget
   pub startable : IsStartable (setup_of p.setup)
-  pub roomy : IsRoomy p.machine
   -- mapped pages and free frames are the frames that it was started with
   pub frames : p.setup.frames ≡ g.frames p.machine.pages
-  pub few : length p.machine.threads.items ≤ 16
-  pub alive : IsNone p.machine.end → any_live p.machine.threads.items ≡ true
+  pub heaps : image_heaps p.setup.image ≡ p.machine.heap.heaps
+  pub alive : IsNone p.machine.end → any_live p.machine.threads ≡ true
   pub refused : IfRefused (λ page. page < 2 ^ 35) p.machine.end

@@ -4,10 +4,10 @@ ghost use Rattle.std.specs.Prelude.{◌≡◌, ◌<◌, length};
 ghost use Rattle.erim_defs.specs.Machine.MapCalls.{pkey_alloc_result, pkey_free_result};
 ghost use Rattle.erim_defs.specs.Machine.Registers.{register};
 ghost use Rattle.erim_defs.specs.Machine.Step.{after_call};
-ghost use Rattle.erim_process.specs.Machine.{Becomes, IsRoomy};
+ghost use Rattle.erim_process.specs.Machine.{Becomes};
 
+use crate::answers::returned;
 use crate::machine::Machine;
-use crate::write_call::refusal;
 use erim_defs::register::{RDI, RSI};
 use erim_defs::{Thread, Trust};
 use map_calls::{pkey_alloc, pkey_free};
@@ -17,41 +17,31 @@ use x86_step::register;
 impl<P: Pages> Machine<P> {
     /// The call pkey_alloc: its flags and its rights are in RDI and RSI.
     pub(crate) fn alloc_key(&mut self, trust: &Trust, t: u8, old: &Thread, new: &Thread)
-        requires there { t < length self.old.threads.items }
+        requires there { t < length self.old.threads }
         ensures state { Becomes P.Memory trust.now self.old self.new
             (λ s. after_call (pkey_alloc_result s new.now (register new.now 7)
             (register new.now 6)) (record { number = t; thread = old.now }) new.now s) }
         ensures steps { self.new.steps ≡ self.old.steps }
-        ensures roomy { IsRoomy self.old → IsRoomy self.new }
-        ensures count { length self.new.threads.items ≡ length self.old.threads.items }
+        ensures heaps { self.new.heap.heaps ≡ self.old.heap.heaps }
         ensures frames { P.frames self.new.pages ≡ P.frames self.old.pages }
     {
         let mut pkru = new.pkru;
-        match pkey_alloc(
-            &mut self.keys,
-            &mut pkru,
-            register(new, RDI),
-            register(new, RSI),
-        ) {
-            Ok(key) => self.answer(trust, t, old, &Thread { pkru, ..*new }, key),
-            Err(error) => self.answer(trust, t, old, new, refusal(error)),
-        }
+        let (flags, rights) = (register(new, RDI), register(new, RSI));
+        let outcome = pkey_alloc(&mut self.keys, &mut pkru, flags, rights);
+        self.answer(trust, t, old, &Thread { pkru, ..*new }, returned(outcome));
     }
 
     /// The call pkey_free: its key is in RDI.
     pub(crate) fn free_key(&mut self, trust: &Trust, t: u8, old: &Thread, new: &Thread)
-        requires there { t < length self.old.threads.items }
+        requires there { t < length self.old.threads }
         ensures state { Becomes P.Memory trust.now self.old self.new
             (λ s. after_call (pkey_free_result s new.now (register new.now 7))
             (record { number = t; thread = old.now }) new.now s) }
         ensures steps { self.new.steps ≡ self.old.steps }
-        ensures roomy { IsRoomy self.old → IsRoomy self.new }
-        ensures count { length self.new.threads.items ≡ length self.old.threads.items }
+        ensures heaps { self.new.heap.heaps ≡ self.old.heap.heaps }
         ensures frames { P.frames self.new.pages ≡ P.frames self.old.pages }
     {
-        match pkey_free(&mut self.keys, register(new, RDI)) {
-            Ok(value) => self.answer(trust, t, old, new, value),
-            Err(error) => self.answer(trust, t, old, new, refusal(error)),
-        }
+        let outcome = pkey_free(&mut self.keys, register(new, RDI));
+        self.answer(trust, t, old, new, returned(outcome));
     }
 }

@@ -8,8 +8,10 @@
 //! `check_start` asks `image_code` for the first unsafe sequence of the code and of trusted text.
 #![tactic(auto)]
 
+mod answers;
 mod calls;
 mod fetch;
+mod heap_calls;
 mod image_pages;
 mod key_calls;
 mod machine;
@@ -21,7 +23,7 @@ mod start;
 mod start_fault;
 mod step;
 mod stepped;
-mod write_call;
+mod thread_calls;
 
 pub use process::Process;
 pub use setup::Setup;

@@ -3,7 +3,7 @@
 ghost use Rattle.std.specs.Prelude.{◌≡◌, ◌<◌, length};
 ghost use Rattle.erim_defs.specs.Machine.State.{Setup};
 ghost use Rattle.erim_defs.specs.Machine.Step.{after_move};
-ghost use Rattle.erim_process.specs.Machine.{Becomes, IsRoomy, machine_state, settled};
+ghost use Rattle.erim_process.specs.Machine.{Becomes, machine_state, settled};
 
 use crate::machine::Machine;
 use erim_defs::{Escape, Found, Thread, Trust};
@@ -13,12 +13,11 @@ use x86_step::{is_escape, set_origin};
 impl<P: Pages> Machine<P> {
     /// The thread `t` is `new` from now on. The first escape is kept.
     pub(crate) fn settle(&mut self, t: u8, new: &Thread, escaped: bool)
-        requires there { t < length self.old.threads.items }
+        requires there { t < length self.old.threads }
         ensures state { (setup : Setup) → machine_state P.Memory setup self.new
             ≡ settled t new.now escaped (machine_state P.Memory setup self.old) }
         ensures steps { self.new.steps ≡ self.old.steps }
-        ensures roomy { IsRoomy self.old → IsRoomy self.new }
-        ensures count { length self.new.threads.items ≡ length self.old.threads.items }
+        ensures heaps { self.new.heap.heaps ≡ self.old.heap.heaps }
         ensures frames { P.frames self.new.pages ≡ P.frames self.old.pages }
     {
         if escaped && self.escape.is_none() {
@@ -28,7 +27,7 @@ impl<P: Pages> Machine<P> {
                 rip: new.rip,
             });
         }
-        self.threads[t as usize] = *new;
+        self.threads.set(t, *new);
     }
 
     /// The thread `t` goes from `old` to `new`. `free` says that this is no escape.
@@ -41,7 +40,7 @@ impl<P: Pages> Machine<P> {
         executed: Option<Found>,
         free: bool,
     )
-        requires there { t < length self.old.threads.items }
+        requires there { t < length self.old.threads }
         ensures state { Becomes P.Memory trust.now self.old self.new (after_move (record {
           runner = record { number = t; thread = old.now };
           after = new.now;
@@ -49,8 +48,7 @@ impl<P: Pages> Machine<P> {
           free = free;
         })) }
         ensures steps { self.new.steps ≡ self.old.steps }
-        ensures roomy { IsRoomy self.old → IsRoomy self.new }
-        ensures count { length self.new.threads.items ≡ length self.old.threads.items }
+        ensures heaps { self.new.heap.heaps ≡ self.old.heap.heaps }
         ensures frames { P.frames self.new.pages ≡ P.frames self.old.pages }
     {
         let mut after = *new;

@@ -4,11 +4,12 @@ ghost use Rattle.std.specs.Prelude.{◌≡◌, ◌≢◌, ◌↔◌, IsTrue, ℕ
 ghost use Rattle.std.specs.Prelude.{IsSome, IsNone, IfSome, slice_index, ◌<◌, ◌≤◌, ◌++◌, ◌∷◌, ◌⊎◌};
 ghost use Rattle.std.specs.Prelude.{[], Some, None, IfOk, IfErr, length, slice_index_or};
 ghost use Rattle.erim_defs.specs.declared.machine.Thread.{Thread};
-ghost use Rattle.erim_defs.specs.Machine.Isolation.{IsIsolated};
+ghost use Rattle.erim_defs.specs.Machine.Isolation.{IsIsolated, IsKept};
 ghost use Rattle.erim_defs.specs.Output.Journal.{IsJournal};
 ghost use Rattle.erim_defs.specs.Machine.Pages.{IsSound, word};
 ghost use Rattle.erim_defs.specs.Machine.State.{any_live};
 ghost use Rattle.erim_defs.specs.Machine.Step.{step};
+ghost use Rattle.isolation.specs.Laws.{AreLawful, IsLawful};
 ghost use Rattle.page_store.specs.Answers.{HasBytes};
 ghost use Rattle.erim_process.specs.Ends.{IfRefused};
 ghost use Rattle.erim_process.specs.ProcessValue.{ProcessValue, state_of, IsRun};
@@ -22,7 +23,7 @@ use crate::start::{check_start, load_machine};
 use crate::start_fault::StartFault;
 use crate::stepped::Stepped;
 use erim_defs::{End, Entry, Escape, Rights, Thread};
-use isolation::{always_kept, startable};
+use isolation::{always_kept, lawful, startable};
 use page_store::{Memory, PageCopy, PageList, Pages};
 use std::alloc::Global;
 use std::marker::Model;
@@ -121,11 +122,11 @@ impl Process {
     pub fn output(&self) -> &[u8]
         ensures { result.now ≡ (state_of self.now).output }
     {
-        self.machine.output.as_slice()
+        self.machine.output.bytes()
     }
 
     /// What the process was started with. Every state of each run from it keeps the isolation
-    /// invariant.
+    /// invariant, and every step keeps the laws.
     pub fn setup(&self) -> &Setup
         ensures value { setup_of result.now ≡ self.now.setup }
         ensures same { (state_of self.now).setup ≡ self.now.setup }
@@ -134,8 +135,10 @@ impl Process {
         ensures some_frames { 64 ≤ self.now.setup.frames }
         ensures frames { self.now.setup.frames ≤ 4096 }
         ensures isolated { IsIsolated self.now.setup }
+        ensures lawful { AreLawful self.now.setup }
     {
         always_kept();
+        lawful();
         &self.setup
     }
 
@@ -153,7 +156,7 @@ impl Process {
         ensures count { result ≡ length (state_of self.now).threads }
         ensures few { result ≤ 16 }
     {
-        self.machine.threads.as_slice().len() as u8
+        self.machine.threads.list().len() as u8
     }
 
     /// A thread, ended ones included.
@@ -161,7 +164,7 @@ impl Process {
         requires { thread < length (state_of self.now).threads }
         ensures { (d : Thread) → result ≡ slice_index_or (state_of self.now).threads thread d }
     {
-        self.machine.threads[thread as usize]
+        self.machine.threads.list()[thread as usize]
     }
 
     /// Copies a page: no rights and zeros where it isn't mapped. Rights are as `rights` says.
@@ -192,6 +195,10 @@ impl Process {
 
     /// Makes one step of a thread, where it is defined, and adds its entry to the journal. `worker`
     /// is the number of the worker that makes it, 0 to 8. Takes no memory.
+    ///
+    /// The state afterwards keeps the isolation invariant. Of a step that was made it is known who
+    /// touches trusted memory, how a thread comes to be open, what an open thread outside trusted
+    /// text does, and when a page is published or refused.
     pub fn step_now(&mut self, worker: u16, thread: u8) -> Stepped
         requires { worker ≤ 8 }
         ensures answer { result ≡ answer (state_of self.old) thread }
@@ -208,8 +215,12 @@ impl Process {
         ensures other { result ≢ Stepped.Made → self.new ≡ self.old }
         ensures setup { self.new.setup ≡ self.old.setup }
         ensures run { IsRun self.new }
+        ensures kept { IsKept (state_of self.new) }
+        ensures lawful { result ≡ Stepped.Made
+            → IsLawful thread (state_of self.old) (state_of self.new) }
     {
         always_kept();
+        lawful();
         let budget = self.setup.budget;
         match self.machine.step(self.setup.image.trust(), budget, thread) {
             Stepped::Made => {

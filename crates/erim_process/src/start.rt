@@ -1,12 +1,12 @@
 //! How a process starts.
 
 ghost use Rattle.std.specs.Prelude.{◌≡◌, ◌≤◌, ◌⊎◌, ◌&&◌, [], Some, None, IfOk, MatchResult, IsTrue};
-ghost use Rattle.std.specs.Prelude.{true, length};
+ghost use Rattle.std.specs.Prelude.{true};
 ghost use Rattle.erim_defs.specs.Encoding.Parts.{AreBytes};
-ghost use Rattle.erim_defs.specs.Inspection.Image.{IsAccepted, entry_point, image_trust};
+ghost use Rattle.erim_defs.specs.Inspection.Image.{IsAccepted, entry_point, image_heaps, image_trust};
 ghost use Rattle.erim_defs.specs.Machine.State.{Setup as Given};
 ghost use Rattle.erim_defs.specs.Machine.Start.{first_thread, frames_needed, first_state};
-ghost use Rattle.erim_process.specs.Machine.{machine_state, IsRoomy};
+ghost use Rattle.erim_process.specs.Machine.{machine_state};
 ghost use Rattle.erim_process.specs.ProcessInvariant.{setup_of};
 ghost use Rattle.erim_process.specs.StartFaults.{start_fault};
 
@@ -14,16 +14,14 @@ use crate::image_pages::load_pages;
 use crate::machine::Machine;
 use crate::setup::Setup;
 use crate::start_fault::StartFault;
-use crate::write_call::OUTPUT_LIMIT;
 use erim_defs::page::STACK_START;
 use erim_defs::register::RSP;
 use erim_defs::{Flags, Keys, Thread, Trust};
 use image_code::ImageCode;
 use page_store::{Memory, PageList};
 use std::alloc::Global;
-
-/// How many threads there may be.
-const THREADS: usize = 16;
+use sys_calls::{Output, Threads};
+use trusted_heap::Heap;
 
 /// What keeps the image from starting.
 #[tactic(auto, unfolding(crate::specs::StartFaults::start_fault))]
@@ -75,11 +73,10 @@ pub(crate) fn load_machine(alloc: Global, setup: &Setup) -> Result<Machine<PageL
     ensures state { IfOk result
         (λ machine. machine_state ⟦<PageList as Memory>⟧ (setup_of setup.now) machine
         ≡ first_state (setup_of setup.now)) }
-    ensures roomy { IfOk result (λ machine. IsRoomy machine) }
+    ensures heaps { IfOk result (λ machine. image_heaps setup.now.image ≡ machine.heap.heaps) }
     ensures frames { IfOk result (λ machine.
         setup.now.frames ≡ ⟦<PageList as Memory>⟧.frames machine.pages) }
-    ensures fresh { IfOk result (λ machine. (machine.steps ≡ 0)
-        × (length machine.threads.items ≡ 1)) }
+    ensures fresh { IfOk result (λ machine. machine.steps ≡ 0) }
     ensures accepted { IfOk result (λ _. IsAccepted setup.now.image) }
     ensures octets { IfOk result (λ _. AreBytes setup.now.image) }
     ensures fault { MatchResult result (λ _. IsTrue true) (λ fault. fault ≡ StartFault.Memory) }
@@ -94,13 +91,14 @@ pub(crate) fn load_machine(alloc: Global, setup: &Setup) -> Result<Machine<PageL
         image.trusted_pages(),
         image.heaps(),
     );
-    let mut threads = Vec::with_capacity(alloc, THREADS)?;
-    threads.push(first_thread(image.entry(), image.trust()))?;
-    let output = Vec::with_capacity(alloc, OUTPUT_LIMIT as usize)?;
+    let threads = Threads::new(alloc, first_thread(image.entry(), image.trust()))?;
+    let heap = Heap::new(alloc, image.heaps())?;
+    let output = Output::new(alloc)?;
     Ok(Machine {
         pages,
         threads,
         keys: Keys::FIRST,
+        heap,
         output,
         end: None,
         steps: 0,

@@ -6,7 +6,7 @@ ghost use Rattle.erim_defs.specs.declared.insn.FetchOutcome.TheVariants.{Runs};
 ghost use Rattle.erim_defs.specs.Machine.Access.{whole};
 ghost use Rattle.erim_defs.specs.Machine.Plan.{effect};
 ghost use Rattle.erim_defs.specs.Machine.Meaning.{plan};
-ghost use Rattle.erim_defs.specs.Inspection.Image.{image_trust};
+ghost use Rattle.erim_defs.specs.Inspection.Image.{image_heaps, image_trust};
 ghost use Rattle.erim_defs.specs.declared.machine.Rights.{Rights};
 ghost use Rattle.erim_defs.specs.declared.machine.Thread.{Thread};
 ghost use Rattle.erim_defs.specs.Inspection.Unsafe.{first_unsafe};
@@ -16,7 +16,7 @@ ghost use Rattle.erim_defs.specs.Machine.State.{Setup, code, trust_of};
 ghost use Rattle.erim_defs.specs.Machine.Step.{step, after_fetch, after_instruction};
 ghost use Rattle.erim_defs.specs.Machine.Step.{after_exec_fault, after_verdict, fetch};
 ghost use Rattle.page_store.specs.Answers.{rights_in};
-ghost use Rattle.erim_process.specs.Machine.{Becomes, machine_state, IsBounded, IsRoomy};
+ghost use Rattle.erim_process.specs.Machine.{Becomes, machine_state, IsBounded};
 ghost use Rattle.erim_process.specs.StepFacts.{answer};
 
 use crate::calls::behind_syscall;
@@ -50,8 +50,7 @@ impl<P: Pages> Machine<P> {
             (λ s. after_exec_fault (s.rights (addr / 4096)) addr
             (record { number = t; thread = thread.now }) s) }
         ensures steps { self.new.steps ≡ self.old.steps }
-        ensures roomy { IsRoomy self.old → IsRoomy self.new }
-        ensures count { length self.new.threads.items ≡ length self.old.threads.items }
+        ensures heaps { self.new.heap.heaps ≡ self.old.heap.heaps }
         ensures frames { P.frames self.new.pages ≡ P.frames self.old.pages }
     {
         let page = addr / 4096;
@@ -74,8 +73,7 @@ impl<P: Pages> Machine<P> {
             (first_unsafe (trust_of s) (code_with s.rights s.bytes page)) page rights
             (record { number = t; thread = thread }) s) }
         ensures steps { self.new.steps ≡ self.old.steps }
-        ensures roomy { IsRoomy self.old → IsRoomy self.new }
-        ensures count { length self.new.threads.items ≡ length self.old.threads.items }
+        ensures heaps { self.new.heap.heaps ≡ self.old.heap.heaps }
         ensures frames { P.frames self.new.pages ≡ P.frames self.old.pages }
     {
         match verdict(&self.pages, page, trust) {
@@ -93,16 +91,14 @@ impl<P: Pages> Machine<P> {
     /// What an instruction makes of the thread.
     fn run(&mut self, trust: &Trust, t: u8, thread: &Thread, insn: &Insn, len: u8, skip: u8)
         requires placed { IsBounded (Runs insn.now len skip) thread.now.rip }
-        requires there { t < length self.old.threads.items }
-        requires roomy { IsRoomy self.old }
+        requires there { t < length self.old.threads }
         ensures state { Becomes P.Memory trust.now self.old self.new
             (λ s. after_instruction (effect (plan insn.now len thread.now) (whole s.rights) s.bytes
             thread.now.pkru thread.now.rip)
             (record { insn = insn.now; len = len; skip = skip })
             (record { number = t; thread = thread.now }) s) }
         ensures steps { self.new.steps ≡ self.old.steps }
-        ensures roomy { IsRoomy self.new }
-        ensures count { length self.new.threads.items ≡ length self.old.threads.items }
+        ensures heaps { self.new.heap.heaps ≡ self.old.heap.heaps }
         ensures frames { P.frames self.new.pages ≡ P.frames self.old.pages }
     {
         let mut new = *thread;
@@ -117,16 +113,14 @@ impl<P: Pages> Machine<P> {
 
     /// What the thread makes of what stands at its RIP.
     fn make(&mut self, trust: &Trust, t: u8, thread: &Thread)
-        requires there { t < length self.old.threads.items }
-        requires roomy { IsRoomy self.old }
+        requires there { t < length self.old.threads }
         requires safe { IsSafeCode trust.now
             (published_code (rights_in (P.seen self.old.pages)) (P.bytes self.old.pages)) }
         ensures state { Becomes P.Memory trust.now self.old self.new
             (λ s. after_fetch (fetch (code s) thread.now.rip)
             (record { number = t; thread = thread.now }) s) }
         ensures steps { self.new.steps ≡ self.old.steps }
-        ensures roomy { IsRoomy self.new }
-        ensures count { length self.new.threads.items ≡ length self.old.threads.items }
+        ensures heaps { self.new.heap.heaps ≡ self.old.heap.heaps }
         ensures frames { P.frames self.new.pages ≡ P.frames self.old.pages }
     {
         match fetch(&mut self.pages, thread.rip) {
@@ -139,20 +133,19 @@ impl<P: Pages> Machine<P> {
     /// Makes one step of a thread, where it is defined.
     #[tactic(auto, unfolding(erim_defs::specs::Machine::Step::step))]
     pub(crate) fn step(&mut self, trust: &Trust, budget: u32, t: u8) -> Stepped
-        requires roomy { IsRoomy self.old }
         requires safe { IsSafeCode trust.now
             (published_code (rights_in (P.seen self.old.pages)) (P.bytes self.old.pages)) }
         ensures answer { (setup : Setup) → setup.budget ≡ budget
             → result ≡ answer (machine_state P.Memory setup self.old) t }
         ensures made { (setup : Setup) → setup.budget ≡ budget → image_trust setup.image ≡ trust.now
-            → setup.frames ≡ P.frames self.old.pages → result ≡ Stepped.Made → step t (machine_state P.Memory setup self.old)
+            → setup.frames ≡ P.frames self.old.pages
+            → image_heaps setup.image ≡ self.old.heap.heaps → result ≡ Stepped.Made → step t (machine_state P.Memory setup self.old)
             ≡ Some (machine_state P.Memory setup self.new) }
-        ensures there { result ≡ Stepped.Made → t < length self.old.threads.items }
+        ensures there { result ≡ Stepped.Made → t < 16 }
         ensures steps { result ≡ Stepped.Made
             → (self.old.steps < budget) × (self.new.steps ≡ self.old.steps + 1) }
         ensures other { result ≢ Stepped.Made → self.new ≡ self.old }
-        ensures roomy { IsRoomy self.new }
-        ensures count { length self.new.threads.items ≡ length self.old.threads.items }
+        ensures heaps { self.new.heap.heaps ≡ self.old.heap.heaps }
         ensures frames { P.frames self.new.pages ≡ P.frames self.old.pages }
     {
         if self.end.is_some() {
@@ -161,10 +154,11 @@ impl<P: Pages> Machine<P> {
         if self.steps >= budget {
             return Stepped::Spent;
         }
-        if t as usize >= self.threads.len() {
+        let threads = self.threads.list();
+        if t as usize >= threads.len() {
             return Stepped::NotLive;
         }
-        let thread = self.threads[t as usize];
+        let thread = threads[t as usize];
         if !thread.live {
             return Stepped::NotLive;
         }

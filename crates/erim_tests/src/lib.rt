@@ -1,11 +1,11 @@
 //! Tests of the libraries and of the commands: worked rows with values from outside, for what no
 //! clause says.
 //!
-//! They stand in a crate of their own, since a crate with tests is proved twice. `files`, `images` and
-//! `instructions` call libraries; `attacks`, `delivering`, `early_faults`, `edges`, `inspecting`,
-//! `mapping`, `printing` and `running` call `erim_plain` (`calling`). Rows are text (`rows`), also those that
-//! images are laid out from (`laying`). Each call that allocates is made at least once where it
-//! succeeds.
+//! They stand in a crate of their own, since a crate with tests is proved twice. `files`, `images`,
+//! `instructions` and `turns` call libraries, `threads` those and `erim_plain`; the others call it
+//! (`calling`), `heap` and `mapping` by a program that makes the calls of a table (`calls`). Rows are
+//! text (`rows`), also those that images are laid out from (`laying`). Each call that allocates is
+//! made at least once where it succeeds.
 #![tactic(auto)]
 
 #[cfg(test)]
@@ -13,13 +13,19 @@ mod attacks;
 #[cfg(test)]
 mod calling;
 #[cfg(test)]
-mod delivering;
+mod calls;
 #[cfg(test)]
-mod early_faults;
+mod delivering;
 #[cfg(test)]
 mod edges;
 #[cfg(test)]
+mod examples;
+#[cfg(test)]
+mod faults;
+#[cfg(test)]
 mod files;
+#[cfg(test)]
+mod heap;
 #[cfg(test)]
 mod images;
 #[cfg(test)]
@@ -36,3 +42,7 @@ mod printing;
 mod rows;
 #[cfg(test)]
 mod running;
+#[cfg(test)]
+mod threads;
+#[cfg(test)]
+mod turns;

@@ -1,44 +1,24 @@
 //! The system calls on pages and keys: tables of calls with their answers, and programs that map,
 //! write, protect and run pages.
 
-use crate::calling::{sink, store, words};
-use crate::laying::laid;
-use crate::rows::{cell, number};
+use crate::calls::{CALLER, CLOSED, Caller, GATE, OPEN, check_answers};
 use crate::running::check_rows;
-use erim_commands::erim_plain;
 use std::alloc::Global;
 use std::process::Abort;
-
-/// A program that makes the calls of a table: number, and what goes to RDI, RSI, RDX and R10; and
-/// writes out their answers, 8 bytes each. The table is at 0x404000, the answers go to 0x405000.
-const CALLER: &str = "\
-bb00404000 bd00504000 488b03 4883f800 7420 488b7b08 488b7310 488b5318 4c8b5320 0f05 48894500
-4883c328 4883c508 ebd7 bf01000000 be00504000 4889ea 4829f2 b801000000 0f05
-bf00000000 b8e70000000f05";
-
-/// The gate in.
-const GATE: &str = "31c931d2b8505555550f01ef";
 
 /// xrstor [0x7FFEE000], which leaves PKRU as it is, with its check, and jmp to 0x401000.
 const ORIGIN: &str = "0fae2c2500e0fe7f 0fbae0097307b8e70000000f05 e9e6dfffff";
 
-/// The trusted text has the entry 0x40200C with the calls behind it, and the entry 0x40220C, from
-/// which an open thread leaves for 0x403000. There is trusted data at 0x406000.
+/// The records. Behind the entry 0x40220C an open thread leaves trusted text for 0x403000. There is
+/// trusted data at 0x406000.
 const RECORDS: &str = "1 402000 1000, 2 406000 1000, 3 40200c 0, 3 40220c 0";
 
-/// Where the calls are made closed, open in trusted text, and open behind an XRSTOR that is the
-/// thread's origin.
-const CLOSED: u64 = 0x401000;
-
-const OPEN: u64 = 0x402000;
-
+/// Where the calls are made by an open thread behind an XRSTOR that is its origin.
 const PINNING: u64 = 0x402200;
 
-/// Calls and their answers, which are error numbers where they begin with a minus. Numbers are
-/// hexadecimal, errors decimal: EPERM 1, EAGAIN 11, ENOMEM 12, EINVAL 22, ENOSPC 28.
-///
-/// 22 pages are mapped at the start, and there are 1,024 frames. The numbers of mmap, mprotect and
-/// munmap are 9, a and b, those of pkey_mprotect, pkey_alloc and pkey_free 149, 14a and 14b.
+/// Calls and their answers. 22 pages are mapped at the start, and there are 1,024 frames. The numbers
+/// of mmap, mprotect and munmap are 9, a and b, those of pkey_mprotect, pkey_alloc and pkey_free 149,
+/// 14a and 14b.
 const CLOSED_ROWS: &str = "\
 mmap takes the lowest pages that fit
 | 9 0 2000 3 22 = 10000000, 9 0 1000 3 22 = 10002000, b 10000000 1000 = 0,
@@ -58,8 +38,8 @@ a page that is mapped anew counts as a free frame
 9 20000000 1000 3 32 = -12, 9 103e9000 2000 3 32 = -12, b 10000000 1000 = 0,
 9 103e9000 2000 3 32 = 103e9000, b 10000000 3eb000 = 0, 9 20000000 3ea000 3 32 = 20000000;
 mmap with MAP_FIXED, at both ends of what it may
-| 9 10000 1000 3 32 = 10000, 9 7ffffffff000 1000 3 32 = 7ffffffff000, 9 7ffe0000 1000 3 32 = 7ffe0000,
-b 10000 1 = 0, b 7ffffffff000 fff = 0;
+| 9 10000 1000 3 32 = 10000, 9 7ffffffff000 1000 3 32 = 7ffffffff000,
+9 7ffe0000 1000 3 32 = 7ffe0000, b 10000 1 = 0, b 7ffffffff000 fff = 0;
 munmap
 | b 401 1000 = -22, b 500000 0 = -22, b 7ffffffff000 1001 = -22, b 10000 ffffffffffffffff = -22,
 b 402001 1000 = -22, b 402000 0 = -22, b 500000 1000 = 0, b 402000 1 = -1, b 401000 1001 = -1,
@@ -76,7 +56,8 @@ pkey_mprotect
 149 402000 1000 1 2 = -1, 149 407000 1000 3 1 = -1, 149 407000 1000 3 2 = -12,
 149 406000 1000 3 ffffffff = -1, 14b 2 = 0, 149 403000 1000 5 2 = -22, 149 403000 1000 5 0 = 0;
 pkey_alloc and pkey_free
-| 14a 1 0 = -22, 14a 0 4 = -22, 14a 100000000 0 = -22, 14a 0 0 = 2, 14a 0 1 = 3, 14b 2 = 0, 14a 0 3 = 2,
+| 14a 1 0 = -22, 14a 0 4 = -22, 14a 100000000 0 = -22, 14a 0 100000000 = -22,
+14a 0 0 = 2, 14a 0 1 = 3, 14b 2 = 0, 14a 0 3 = 2, 14a 0 2 = 4, 14b 4 = 0, 14b f = -22,
 14b 0 = -22, 14b 1 = -22, 14b 4 = -22, 14b 10 = -22, 14b 100000003 = 0, 14b 3 = -22";
 
 /// Trusted text is protected from an open caller too, trusted data isn't.
@@ -134,93 +115,31 @@ reads a page whose key it closed
 | output 0//steps 12/end fault key thread 0 rip 0x000000401027 at 0x000000402008/
 escape none/thread 0 steps 12 pkru 0x55555554/worker 0 steps 12/";
 
-/// Appends 8 bytes, low byte first.
-fn push_number(rt: &impl Abort, bytes: &mut Vec<u8>, value: u64) {
-    bytes
-        .extend_from_slice(&value.to_le_bytes())
-        .expect(rt, "memory");
-}
-
-/// The five numbers of a call; those that aren't given are 0.
-fn push_call(rt: &impl Abort, table: &mut Vec<u8>, call: &str) {
-    let mut left: u32 = 5;
-    for digits in call.split_whitespace() {
-        push_number(rt, table, number(rt, digits));
-        left = left.saturating_sub(1);
-    }
-    for _ in 0..left {
-        push_number(rt, table, 0);
-    }
-}
-
-/// An answer: a number in hexadecimal digits, or a minus and an error number.
-fn push_answer(rt: &impl Abort, answers: &mut Vec<u8>, answer: &str) {
-    let value = match answer.strip_prefix('-') {
-        Some(error) => 0_u64.wrapping_sub(error.parse().expect(rt, answer)),
-        None => number(rt, answer),
-    };
-    push_number(rt, answers, value);
-}
-
-/// The image that makes the calls of a table from an entry point on.
-fn caller(rt: &impl Abort, alloc: Global, table: &[u8], entry: u64) -> Vec<u8> {
-    let digits = hex::encode(alloc, table).expect(rt, "memory");
+/// Makes calls on pages.
+fn check(rt: &impl Abort, alloc: Global, rows: &str, entry: u64) {
     let segments = format!(in alloc;
-        "401000 5 1 0 {CALLER}, 402000 5 1 0 {GATE} {CALLER} + 200 {GATE} e9ef0d0000, \
-         403000 5 1 0 {ORIGIN}, 404000 6 1 0 {digits}, 405000 6 1 0 -, 406000 6 1 0 -"
-    )
-    .expect(rt, "memory");
-    laid(rt, alloc, segments.as_str(), RECORDS, entry)
-}
-
-/// Makes the calls of each row, and looks for their answers.
-fn check_answers(rt: &impl Abort, alloc: Global, rows: &str, entry: u64) {
-    for row in rows.split(";\n") {
-        let (what, calls) = cell(rt, row);
-        let mut table = Vec::new(alloc);
-        let mut answers = Vec::new(alloc);
-        for line in calls.split(',') {
-            let (call, answer) = line.split_once('=').expect(rt, what);
-            push_call(rt, &mut table, call);
-            push_answer(rt, &mut answers, answer.trim());
-        }
-        check_output(
-            rt,
-            alloc,
-            caller(rt, alloc, table.as_slice(), entry),
-            &answers,
-            what,
-        );
-    }
-}
-
-/// Runs an image, and looks for its output and the status 0.
-fn check_output(rt: &impl Abort, alloc: Global, image: Vec<u8>, bytes: &[u8], what: &str) {
-    let mut text = Vec::new(alloc);
-    let head = format!(in alloc; "output {}\n", bytes.len()).expect(rt, what);
-    text.extend_from_slice(head.as_bytes()).expect(rt, what);
-    text.extend_from_slice(bytes).expect(rt, what);
-    let mut held = store(rt, alloc, image, &[]);
-    let mut out = sink(rt, alloc, &[], 131_072);
-    let words = words(rt, alloc, "erim run image journal");
-    let status = erim_plain(alloc, words.as_slice(), &mut held, &mut out);
-    assert!(rt; status == 0, "{what}");
-    assert!(rt; out.written().starts_with(text.as_slice()), "{what}");
+        "402000 5 1 0 {GATE} {CALLER} + 200 {GATE} e9ef0d0000, 403000 5 1 0 {ORIGIN}, 406000 6 1 0 -"
+    ).expect(rt, "memory");
+    let caller = Caller {
+        segments: segments.as_str(),
+        records: RECORDS,
+    };
+    check_answers(rt, alloc, &caller, rows, entry);
 }
 
 #[test]
 fn answers_closed_callers(rt: HostRuntime) {
-    check_answers(&rt, rt.alloc(), CLOSED_ROWS, CLOSED);
+    check(&rt, rt.alloc(), CLOSED_ROWS, CLOSED);
 }
 
 #[test]
 fn answers_open_callers(rt: HostRuntime) {
-    check_answers(&rt, rt.alloc(), OPEN_ROWS, OPEN);
+    check(&rt, rt.alloc(), OPEN_ROWS, OPEN);
 }
 
 #[test]
 fn answers_a_caller_with_an_origin(rt: HostRuntime) {
-    check_answers(&rt, rt.alloc(), PINNING_ROWS, PINNING);
+    check(&rt, rt.alloc(), PINNING_ROWS, PINNING);
 }
 
 #[test]

@@ -22,7 +22,8 @@ use Rattle.erim_defs.specs.Inspection.Unsafe.{first_unsafe}
 use Rattle.erim_defs.specs.Machine.Plan.{Effect, Done, Stopped, Called, effect}
 use Rattle.erim_defs.specs.Machine.Meaning.{plan}
 use Rattle.erim_defs.specs.Machine.State.{Setup, State, code, trust_of}
-use Rattle.erim_defs.specs.Machine.CallResult.{Change, Refusal, Answer, Quit, CallResult}
+use Rattle.erim_defs.specs.Machine.CallResult.{Change, Refusal, Answer, ThreadEnd, Quit}
+use Rattle.erim_defs.specs.Machine.CallResult.{CallResult}
 use Rattle.erim_defs.specs.Machine.Calls.{call_result}
 use Rattle.erim_defs.specs.Machine.Step.{step, after_move, after_instruction, after_call}
 use Rattle.erim_defs.specs.Machine.Step.{after_fetch, with_new_thread, caller_after, with_change}
@@ -39,7 +40,7 @@ use Rattle.isolation.proofs.DecoderFacts.{AllOf, Decoder}
 use Rattle.isolation.proofs.StandLemmas.{EntriesIn}
 use Rattle.isolation.proofs.MemoryLemmas.{made_kind}
 use Rattle.isolation.proofs.KeptLemmas.{some_same, OfState, IsFine, kept_later, kept_step}
-use Rattle.isolation.proofs.KeptLemmas.{fresh_ruled}
+use Rattle.isolation.proofs.KeptLemmas.{fresh_ruled, ended_thread, last_either}
 use Rattle.isolation.proofs.CallLemmas.{all_fine}
 use Rattle.erim_defs.specs.Inspection.Trust.{in_text_of}
 use Rattle.erim_defs.proofs.AcceptedLemmas.{text_page}
@@ -318,6 +319,9 @@ replied_follows N bytes (Answer v c) t old new s fine =
       kind = (fine v c
           refl).kind bytes;
     })
+replied_follows N bytes (ThreadEnd status) t old new s fine =
+    last_either (Follows N s) status (ended_thread t old new s) (same_follows N s _ refl refl)
+    (same_follows N s _ refl refl)
 replied_follows N bytes (Quit status) t old new s fine = same_follows N s _ refl refl
 
 did_follows : {N : ℕ → Type 0} → Decoder N

@@ -8,7 +8,7 @@ use Rattle.erim_defs.specs.Machine.State.{State, code}
 use Rattle.erim_defs.specs.Machine.CallResult.{Change, Answer, or_refuse, CallResult}
 use Rattle.erim_defs.specs.Machine.Isolation.{IsKept, KeepsText}
 use Rattle.isolation.proofs.ThreadLemmas.{origins_same}
-use Rattle.isolation.proofs.KeptLemmas.{IsFine}
+use Rattle.isolation.proofs.KeptLemmas.{IsCopy, IsFine}
 
 -- ---- answers
 
@@ -26,6 +26,12 @@ pub row_answer : (P : Type 0) (b : Bool) (x y : CallResult) (v : ℕ) (c : Chang
     → (x ≡ Answer v c → P) → (y ≡ Answer v c → P) → cond b x y ≡ Answer v c → P
 row_answer P true x y v c f g h = f h
 row_answer P false x y v c f g h = g h
+
+-- the same, where the row tells more
+pub row_here : (P : Type 0) (b : Bool) (x y : CallResult) (v : ℕ) (c : Change)
+    → (b ≡ true → x ≡ Answer v c → P) → (y ≡ Answer v c → P) → cond b x y ≡ Answer v c → P
+row_here P true x y v c f g h = f refl h
+row_here P false x y v c f g h = g h
 
 pub none_of : {X : Type 0} (o : Option X) → is_some o ≡ false → o ≡ None
 none_of None h = refl
@@ -45,13 +51,13 @@ text_left s rights bytes q k e f = record {
   same = λ a h. f a h ∙ k.same a h;
 }
 
--- keys 0 and 1 stay taken, the caller is as open as it was, and no thread is made
+-- keys 0 and 1 stay taken, the caller is as open as it was, and a thread that is made is a copy
 pub record LeavesPages (s : State) (t : Thread) (c : Change) : Type 0 where
   pub rights : c.rights ≡ s.rights
   pub bytes : c.bytes ≡ s.bytes
   pub keys : (c.keys 0 ≡ true) × (c.keys 1 ≡ true)
   pub pkru : opens c.pkru 1 ≡ opens t.pkru 1
-  pub made : c.made ≡ None
+  pub made : (u : Thread) → c.made ≡ Some u → IsCopy t u
 
 pub left_fine : (N : ℕ → Type 0) (s : State) (t : Thread) (c : Change) → IsKept s
     → LeavesPages s t c → IsFine N s t c
@@ -69,6 +75,6 @@ left_fine N s t c h l =
       low = λ q high. page q ∙ h.low q high;
       zeros = λ a n. byte a ∙ h.zeros a (sym (page (a / 4096)) ∙ n);
       pkru = l.pkru;
-      made = λ u e. absurd (let k : None ≡ Some u = sym l.made ∙ e in cc);
+      made = l.made;
       kind = λ bytes of a. subst N (sym (byte a)) (of a);
     }

@@ -34,7 +34,7 @@ use Rattle.erim_defs.specs.Inspection.Trust.{TrustValue}
 use Rattle.erim_defs.specs.Inspection.Check.{Position, Compare, Branch, Number, Leave, check_insn}
 use Rattle.erim_defs.specs.Inspection.Check.{check_bytes}
 
-set_here : (ts : List Thread) (t : ℕ) (v old : Thread) → slice_get ts t ≡ Some old
+pub set_here : (ts : List Thread) (t : ℕ) (v old : Thread) → slice_get ts t ≡ Some old
     → slice_get (slice_set ts t v) t ≡ Some v
 set_here [] t v old h = absurd cc
 set_here (x ∷ ts) zero v old h = refl

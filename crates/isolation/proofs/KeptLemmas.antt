@@ -13,6 +13,7 @@ use Rattle.erim_defs.specs.declared.machine.Escape.{Escape}
 use Rattle.erim_defs.specs.declared.machine.Cause.TheVariants.{Exec, Undefined as UndefinedCause}
 use Rattle.erim_defs.specs.declared.machine.Access.TheVariants.{Fault, Missing}
 use Rattle.erim_defs.specs.declared.found.Found.{Found}
+use Rattle.erim_defs.specs.declared.trust.Span.{Span}
 use Rattle.erim_defs.specs.declared.insn.Insn.{Insn}
 use Rattle.erim_defs.specs.declared.insn.FetchOutcome.{FetchOutcome}
 use Rattle.erim_defs.specs.declared.insn.FetchOutcome.TheVariants.{Runs, Need, Wrong}
@@ -26,12 +27,14 @@ use Rattle.erim_defs.specs.Machine.Plan.{bytes_after_write}
 use Rattle.erim_defs.specs.Machine.Registers.{register, with_register, onward}
 use Rattle.erim_defs.specs.Machine.Meaning.{plan}
 use Rattle.erim_defs.specs.Machine.State.{State, code, with_origin, is_escape, is_outside}
-use Rattle.erim_defs.specs.Machine.State.{first_escape, trust_of}
-use Rattle.erim_defs.specs.Machine.CallResult.{Change, Refusal, Answer, Quit, CallResult}
+use Rattle.erim_defs.specs.Machine.State.{first_escape, trust_of, any_live}
+use Rattle.erim_defs.specs.Machine.CallResult.{Change, Refusal, Answer, ThreadEnd, Quit}
+use Rattle.erim_defs.specs.Machine.CallResult.{CallResult}
 use Rattle.erim_defs.specs.Machine.Calls.{call_result}
 use Rattle.erim_defs.specs.Machine.Step.{is_free, flags_word, step, after_move, after_instruction}
 use Rattle.erim_defs.specs.Machine.Step.{after_call, after_fetch, sequence_of, with_new_thread}
 use Rattle.erim_defs.specs.Machine.Step.{caller_after, with_change, behind_syscall, with_end}
+use Rattle.erim_defs.specs.Machine.Step.{with_last_end}
 use Rattle.erim_defs.specs.Machine.Step.{after_verdict, after_exec_fault, ready_thread}
 use Rattle.erim_defs.specs.Machine.Step.{after_step_of, if_live, fetch, Runner}
 use Rattle.erim_defs.specs.Machine.Start.{unpublished_rights}
@@ -46,7 +49,7 @@ use Rattle.isolation.proofs.ThreadLemmas.{stands_same, each_at, each_set, each_a
 use Rattle.isolation.proofs.ThreadLemmas.{each_kept, origins_same, each_grown, settled_origin}
 use Rattle.isolation.proofs.MemoryLemmas.{NotWritable, published_sealed, unmapped_sealed}
 use Rattle.isolation.proofs.MemoryLemmas.{code_same, first_none}
-use Rattle.erim_defs.specs.Inspection.Trust.{in_text_of}
+use Rattle.erim_defs.specs.Inspection.Trust.{in_text_of, TrustValue}
 
 -- ---- what a kept state says
 
@@ -77,9 +80,9 @@ code_kind N s h a x e = elim (cases_Bool (is_published (s.rights (a / 4096)))) [
 
 -- ---- the parts of a step
 
--- pages and keys change, threads stay
-pub kept_frame : (s : State) (rights : RightsMap) (bytes : ByteMap) (keys : ℕ
-    → Bool) (output : List ℕ) → IsKept s
+-- pages, keys and heap blocks change, threads stay
+pub kept_frame : (s : State) (rights : RightsMap) (bytes : ByteMap) (keys : ℕ → Bool)
+    (blocks : List Span) (output : List ℕ) → IsKept s
     → ((q : ℕ) (r : Rights) → rights q ≡ Some r → IsRuled r)
     → Loses (published_code rights bytes) (code s)
     → ((q : ℕ) → in_text_of (trust_of s) (4096 * q) ≡ true → KeepsText s.setup rights bytes q)
@@ -87,8 +90,14 @@ pub kept_frame : (s : State) (rights : RightsMap) (bytes : ByteMap) (keys : ℕ
     → KeepsOrigins (published_code rights bytes) (code s) s.threads
     → ((q : ℕ) → 2 ^ 35 ≤ q → rights q ≡ None)
     → ((a : ℕ) → rights (a / 4096) ≡ None → bytes a ≡ 0)
-    → IsKept (record s { rights = rights; bytes = bytes; keys = keys; output = output })
-kept_frame s rights bytes keys output h ruled loses text two origins low zeros = record {
+    → IsKept (record s {
+      rights = rights;
+      bytes = bytes;
+      keys = keys;
+      blocks = blocks;
+      output = output;
+    })
+kept_frame s rights bytes keys blocks output h ruled loses text two origins low zeros = record {
   ruled = ruled;
   safe = λ a. unsafe_loses (image_trust s.setup.image) (published_code rights bytes) (code s) a
       loses
@@ -110,10 +119,11 @@ escape_none None true step t rip h = absurd cc
 escape_none None false step t rip h = (refl, refl)
 escape_none (Some x) out step t rip h = absurd cc
 
--- a thread goes on
+-- a thread goes on, or ends
 pub kept_went : (s : State) (t : ℕ) (old new : Thread) (made : Option Found) (free : Bool)
     → IsKept s → length new.regs ≡ 16
-    → (s.end ≡ None → s.escape ≡ None → is_escape (trust_of s) free old new ≡ false
+    → (new.live ≡ true → s.end ≡ None → s.escape ≡ None
+    → is_escape (trust_of s) free old new ≡ false
     → Stands (trust_of s) (code s) (with_origin (trust_of s) made new))
     → IsKept (after_move (record {
       runner = record { number = t; thread = old };
@@ -133,7 +143,7 @@ kept_went s t old new made free h regs st = record {
       new.rip f in
       each_set (λ u. u.live ≡ true
       → Stands (trust_of s) (code s) u) s.threads t (with_origin (trust_of s) made new) (h.stand
-      e k.0) (λ l. st e k.0 k.1));
+      e k.0) (λ l. st l e k.0 k.1));
   regs = each_set (λ u. length u.regs ≡ 16) s.threads t (with_origin (trust_of s) made new) h.regs
       regs;
   low = h.low;
@@ -153,6 +163,18 @@ kept_ended s e h = record {
   low = h.low;
   zeros = h.zeros;
 }
+
+-- what holds of a state and of its end holds where it ends with its last live thread
+pub last_either : (P : State → Type 0) (status : ℕ) (s : State) → P s → P (with_end (Exit status) s)
+    → P (with_last_end status s)
+last_either P status s on off = by_live (any_live s.threads)
+  where
+    by_live : (live : Bool) → P (cond live s (with_end (Exit status) s))
+    by_live true = on
+    by_live false = off
+
+kept_last : (status : ℕ) (s : State) → IsKept s → IsKept (with_last_end status s)
+kept_last status s h = last_either IsKept status s h (kept_ended s (Exit status) h)
 
 text_published : (s : State) → IsKept s → (q : ℕ) → in_text_of (trust_of s) (4096 * q) ≡ true
     → is_published (s.rights q) ≡ true
@@ -176,7 +198,7 @@ pub kept_write : (s : State) (pkru : ℕ) (w : Option Write) → IsKept s
     → IsAllowed (whole s.rights) pkru w
     → IsKept (record s { bytes = bytes_after_write w s.bytes })
 kept_write s pkru w h a =
-    kept_frame s s.rights (bytes_after_write w s.bytes) s.keys s.output h h.ruled
+    kept_frame s s.rights (bytes_after_write w s.bytes) s.keys s.blocks s.output h h.ruled
     (λ x. inl (code_after s pkru w x h a))
     (λ q t. (let k = h.text q t in record {
       held = k.held;
@@ -231,7 +253,7 @@ kept_done {N} d s insn len skip t old new w ent of h run done =
     let same = λ (x : ℕ). code_after s old.pkru w x h allowed in
     kept_went next t old new (sequence_of (record { insn = insn; len = len; skip = skip }) old.rip)
     (is_free insn old) k (goes.regs ∙ regs)
-    (λ e g esc. stands_on s w
+    (λ l e g esc. stands_on s w
     (with_origin (trust_of s) (sequence_of (record { insn = insn; len = len; skip = skip })
     old.rip) new) same
     (did_stands d (trust_of s) (code s) old new w insn len skip (whole s.rights) s.bytes old.pkru
@@ -350,6 +372,15 @@ kept_fault (Some r) x t s h e = elim (cases_Bool (asks_exec r.asked && ltb (x / 
 
 -- ---- system calls
 
+-- a thread u that the thread t makes by clone: it has what t has, but for numbers in its registers
+pub record IsCopy (t u : Thread) : Type 0 where
+  pub call : register t 0 ≡ 56
+  pub regs : length u.regs ≡ length t.regs
+  pub rip : u.rip ≡ t.rip
+  pub pkru : u.pkru ≡ t.pkru
+  pub origin : u.origin ≡ t.origin
+  pub live : u.live ≡ t.live
+
 -- what a call may change, so that all is kept; where bytes are of the kind N the state's stay so
 pub record IsFine (N : ℕ → Type 0) (s : State) (t : Thread) (c : Change) : Type 0 where
   pub ruled : (q : ℕ) (r : Rights) → c.rights q ≡ Some r → IsRuled r
@@ -361,9 +392,13 @@ pub record IsFine (N : ℕ → Type 0) (s : State) (t : Thread) (c : Change) : T
   pub low : (q : ℕ) → 2 ^ 35 ≤ q → c.rights q ≡ None
   pub zeros : (a : ℕ) → c.rights (a / 4096) ≡ None → c.bytes a ≡ 0
   pub pkru : opens c.pkru 1 ≡ opens t.pkru 1
-  pub made : (u : Thread) → c.made ≡ Some u
-      → (length u.regs ≡ length t.regs) × (is_outside (trust_of s) u ≡ is_outside (trust_of s) t)
+  pub made : (u : Thread) → c.made ≡ Some u → IsCopy t u
   pub kind : ((x : ℕ) → x < 256 → N x) → OfState N s → (a : ℕ) → N (c.bytes a)
+
+-- a copy stands outside trusted text where the thread itself does
+pub copy_outside : (trust : TrustValue) (t u : Thread) → IsCopy t u
+    → is_outside trust u ≡ is_outside trust t
+copy_outside trust t u h = rw (h.rip, h.pkru) refl
 
 -- every call is fine
 abbrev pub AllFine : (ℕ → Type 0) → Type 0
@@ -373,8 +408,8 @@ AllFine N = (s : State) (v number : ℕ) (t : Thread) (c : Change) → IsKept s
 kept_changed : {N : ℕ → Type 0} (s : State) (t : Thread) (c : Change) → IsKept s → IsFine N s t c
     → IsKept (with_change c s)
 kept_changed s t c h f =
-    kept_frame s c.rights c.bytes c.keys c.output h f.ruled f.loses f.text f.keys f.origins f.low
-    f.zeros
+    kept_frame s c.rights c.bytes c.keys c.blocks c.output h f.ruled f.loses f.text f.keys f.origins
+    f.low f.zeros
 
 kept_made : (s : State) (u : Thread) → IsKept s → length u.regs ≡ 16
     → (s.end ≡ None → s.escape ≡ None → is_outside (trust_of s) u ≡ false)
@@ -453,8 +488,8 @@ kept_answer s t v c old new h f regs p call =
     let inside : CallerIn s old (caller_after v c new) = call (caller_after v c new) (f.pkru ∙ p) in
     let on = kept_went (with_change c s) t old (caller_after v c new) None false k
     (length-set new.regs 0 v ∙ regs)
-    (λ e g esc. stands_in (trust_of s) (published_code c.rights c.bytes) None (caller_after v c new)
-    (inside e g esc)) in
+    (λ l e g esc. stands_in (trust_of s) (published_code c.rights c.bytes) None
+    (caller_after v c new) (inside e g esc)) in
     made_kept (after_move (record {
       runner = record { number = t; thread = old };
       after = (caller_after v c new);
@@ -462,11 +497,20 @@ kept_answer s t v c old new h f regs p call =
       free =
           false;
     }) (with_change c s)) c.made on
-    (λ u e. (f.made u e).0 ∙ regs)
+    (λ u e. (f.made u e).regs ∙ regs)
     (λ u e n g. (let k = escape_none s.escape
     (is_escape (trust_of s) false old (caller_after v c new)) s.steps t
     (caller_after v c new).rip g in
-    (f.made u e).1 ∙ sym same ∙ inside n k.0 k.1))
+    copy_outside (trust_of s) new u (f.made u e) ∙ sym same ∙ inside n k.0 k.1))
+
+-- behind the end of a thread
+abbrev pub ended_thread : ℕ → Thread → Thread → State → State
+ended_thread t old new s = after_move (record {
+  runner = record { number = t; thread = old };
+  after = record new { live = false };
+  executed = None;
+  free = false;
+}) s
 
 kept_replied : {N : ℕ → Type 0} (s : State) (t : ℕ) (r : CallResult) (old new : Thread) → IsKept s
     → length new.regs ≡ 16 → opens new.pkru 1 ≡ opens old.pkru 1
@@ -477,10 +521,13 @@ kept_replied s t (Refusal e) old new h regs p fine call =
     kept_went s t old (with_register new 0 (2 ^ 64 - e)) None false h
     (length-set new.regs 0 (2 ^ 64 - e)
     ∙ regs)
-    (λ n g esc. stands_in (trust_of s) (code s) None (with_register new 0 (2 ^ 64 - e))
+    (λ l n g esc. stands_in (trust_of s) (code s) None (with_register new 0 (2 ^ 64 - e))
     (call (λ x y. absurd cc) (with_register new 0 (2 ^ 64 - e)) p n g esc))
 kept_replied s t (Answer v c) old new h regs p fine call =
     kept_answer s t v c old new h (fine v c refl) regs p (call (λ x y. absurd cc))
+kept_replied s t (ThreadEnd status) old new h regs p fine call =
+    kept_last status (ended_thread t old new s)
+    (kept_went s t old (record new { live = false }) None false h regs (λ l. absurd cc))
 kept_replied s t (Quit status) old new h regs p fine call = kept_quit s t old new status h regs
 
 pub reply_quit : (s : State) (number : ℕ) (t : Thread) → register t 0 ≡ 231

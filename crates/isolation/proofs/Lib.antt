@@ -9,6 +9,8 @@ pub mod MemoryLemmas
 pub mod KeptLemmas
 pub mod AnswerLemmas
 pub mod MapCallLemmas
+pub mod ThreadCallLemmas
+pub mod HeapCallLemmas
 pub mod CallLemmas
 pub mod AlwaysLemmas
 pub mod AlwaysKept
@@ -16,5 +18,7 @@ pub mod RunLemmas
 pub mod CheckLaw
 pub mod TouchLemmas
 pub mod OpenLemmas
+pub mod MadeLemmas
 pub mod PublishLemmas
+pub mod LawfulLemmas
 pub mod StartLemmas

@@ -482,7 +482,7 @@ alloc_leaves s t bits v (Some key) c h e k =
       bytes = refl;
       keys = (or_right _ _ h.keys.0, or_right _ _ h.keys.1);
       pkru = rights_open t.pkru key bits (omega (arith, two));
-      made = refl;
+      made = λ u n. absurd cc;
     })
 
 pub pkey_alloc_leaves : (s : State) (t : Thread) (flags bits v : ℕ) (c : Change) → IsKept s
@@ -511,7 +511,7 @@ pkey_free_leaves s t key v c h e =
         other_key 1 k (s.keys 1) l h.keys.1,
       );
       pkru = refl;
-      made = refl;
+      made = λ u n. absurd cc;
     })
 
 -- ---- each is fine: one lemma a call

@@ -23,7 +23,8 @@ use Rattle.erim_defs.specs.Machine.Plan.{Effect, Done, Stopped, Called, effect}
 use Rattle.erim_defs.specs.Machine.Registers.{with_register}
 use Rattle.erim_defs.specs.Machine.Meaning.{plan}
 use Rattle.erim_defs.specs.Machine.State.{State, code, with_origin, trust_of}
-use Rattle.erim_defs.specs.Machine.CallResult.{Change, Refusal, Answer, Quit, CallResult}
+use Rattle.erim_defs.specs.Machine.CallResult.{Change, Refusal, Answer, ThreadEnd, Quit}
+use Rattle.erim_defs.specs.Machine.CallResult.{CallResult}
 use Rattle.erim_defs.specs.Machine.Calls.{call_result}
 use Rattle.erim_defs.specs.Machine.Step.{is_free, after_move, after_instruction, after_call}
 use Rattle.erim_defs.specs.Machine.Step.{after_fetch, sequence_of, with_new_thread, caller_after}
@@ -35,7 +36,8 @@ use Rattle.isolation.proofs.SequenceLemmas.{check_fits}
 use Rattle.isolation.proofs.ListLemmas.{sequence_fact}
 use Rattle.erim_defs.proofs.PlanLemmas.{Goes, done_goes}
 use Rattle.isolation.proofs.StandLemmas.{behind_sequence, fetched_decoded, free_kind, made_of}
-use Rattle.isolation.proofs.KeptLemmas.{code_kind, kept_later, kept_low}
+use Rattle.isolation.proofs.KeptLemmas.{code_kind, kept_later, kept_low, ended_thread}
+use Rattle.isolation.proofs.KeptLemmas.{last_either}
 use Rattle.isolation.proofs.CallLemmas.{all_fine}
 use Rattle.isolation.proofs.AlwaysLemmas.{IsGood}
 use Rattle.isolation.proofs.GrammarFacts.{Known, decoder}
@@ -45,7 +47,7 @@ use Rattle.erim_defs.specs.Inspection.Trust.{TrustValue}
 
 -- ---- lists of threads
 
-set_get : (xs : List Thread) (t i : ℕ) (v b : Thread) → slice_get (slice_set xs t v) i ≡ Some b
+pub set_get : (xs : List Thread) (t i : ℕ) (v b : Thread) → slice_get (slice_set xs t v) i ≡ Some b
     → ((i ≡ t) × (b ≡ v)) ⊎ (slice_get xs i ≡ Some b)
 set_get [] t i v b h = absurd cc
 set_get (x ∷ xs) zero zero v b h = inl (refl, (let z : v ≡ b = cc in sym z))
@@ -62,7 +64,7 @@ set_some (x ∷ xs) zero (suc i) v a h = (a, h)
 set_some (x ∷ xs) (suc t) zero v a h = (a, h)
 set_some (x ∷ xs) (suc t) (suc i) v a h = set_some xs t i v a h
 
-append_get : (xs ys : List Thread) (i : ℕ) (a : Thread) → slice_get xs i ≡ Some a
+pub append_get : (xs ys : List Thread) (i : ℕ) (a : Thread) → slice_get xs i ≡ Some a
     → slice_get (xs ++ ys) i ≡ Some a
 append_get [] ys i a h = absurd cc
 append_get (x ∷ xs) ys zero a h = h
@@ -124,6 +126,11 @@ replied_not (Answer v ch) t i old new a b s at p q f g c o =
     let k : Some u.0 ≡ Some b = sym z ∙ g in
     let y : u.0 ≡ b = cc in
     went_not s.threads t i old n a b at (q v ch refl ∙ p) f (u.1 ∙ ap Some y) c o
+replied_not (ThreadEnd n) t i old new a b s at p q f g c o =
+    let ended : State = ended_thread t old new s in
+    let same = last_either (λ (x : State). x.threads ≡ ended.threads) n ended refl refl in
+    went_not s.threads t i old (with_origin (trust_of s) None (record new { live = false })) a b at
+    p f (ap (λ (ts : List Thread). slice_get ts i) (sym same) ∙ g) c o
 replied_not (Quit n) t i old new a b s at p q f g c o =
     went_not s.threads t i old (with_origin (trust_of s) None new) a b at p f g c o
 
@@ -132,7 +139,7 @@ judged_threads : (u : Option Found) (q : ℕ) (r : Rights) (t : Runner) (s : Sta
 judged_threads None q r t s = refl
 judged_threads (Some y) q r t s = refl
 
-fault_threads : (o : Option Rights) (x : ℕ) (t : Runner) (s : State)
+pub fault_threads : (o : Option Rights) (x : ℕ) (t : Runner) (s : State)
     → (after_exec_fault o x t s).threads ≡ s.threads
 fault_threads None x t s = refl
 fault_threads (Some r) x t s = elim (cases_Bool (asks_exec r.asked && ltb (x / 4096) (2 ^ 35))) [

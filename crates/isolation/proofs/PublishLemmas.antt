@@ -25,14 +25,15 @@ use Rattle.erim_defs.specs.Inspection.Image.{image_trust}
 use Rattle.erim_defs.specs.Machine.Plan.{Effect, Done, Stopped, Called, effect}
 use Rattle.erim_defs.specs.Machine.Meaning.{plan}
 use Rattle.erim_defs.specs.Machine.State.{State, code}
-use Rattle.erim_defs.specs.Machine.CallResult.{Change, Refusal, Answer, Quit, CallResult}
+use Rattle.erim_defs.specs.Machine.CallResult.{Change, Refusal, Answer, ThreadEnd, Quit}
+use Rattle.erim_defs.specs.Machine.CallResult.{CallResult}
 use Rattle.erim_defs.specs.Machine.Calls.{call_result}
 use Rattle.erim_defs.specs.Machine.Step.{after_move, after_instruction, after_call, after_fetch}
 use Rattle.erim_defs.specs.Machine.Step.{with_new_thread, caller_after, with_change, behind_syscall}
 use Rattle.erim_defs.specs.Machine.Step.{with_end, after_verdict, after_exec_fault, fetch, Runner}
 use Rattle.erim_defs.specs.Machine.Isolation.{IsKept}
 use Rattle.isolation.specs.Laws.{IsPublication, IsRefusal, PublishLaw, RefuseLaw}
-use Rattle.isolation.proofs.KeptLemmas.{IsFine, kept_later}
+use Rattle.isolation.proofs.KeptLemmas.{IsFine, kept_later, ended_thread, last_either}
 use Rattle.isolation.proofs.CallLemmas.{all_fine}
 use Rattle.isolation.proofs.GrammarFacts.{Known}
 use Rattle.isolation.proofs.RunLemmas.{run_good, step_moves}
@@ -154,6 +155,10 @@ replied_publishes (Answer v c) t q old new s h f g =
       executed = None;
       free = false;
     }) (with_change c s)))) ∙ g)
+replied_publishes (ThreadEnd n) t q old new s h f g =
+    let same = last_either (λ (x : State). x.rights ≡ s.rights) n (ended_thread t old new s) refl
+    refl in
+    same_published (s.rights q) f (ap (λ (m : RightsMap). is_published (m q)) (sym same) ∙ g)
 replied_publishes (Quit n) t q old new s h f g = same_published (s.rights q) f g
 
 did_publishes : (r : Effect) (insn : Insn) (len skip t q : ℕ) (old : Thread) (s : State) → IsKept s
@@ -310,6 +315,9 @@ replied_refuses (Answer v c) t q found u old new s n f =
       executed = None;
       free = false;
     }) (with_change c s))) ∙ f)
+replied_refuses (ThreadEnd x) t q found u old new s n f =
+    last_either (λ (y : State). y.end ≡ Some (Refused q found u) → ⊥) x (ended_thread t old new s)
+    (refused_not s.end q found u n) (λ e. absurd cc) f
 replied_refuses (Quit x) t q found u old new s n f = absurd cc
 
 did_refuses : (r : Effect) (insn : Insn) (len skip t q : ℕ) (found : Found) (u : ℕ) (old : Thread)

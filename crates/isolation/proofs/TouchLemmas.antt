@@ -28,8 +28,7 @@ use Rattle.erim_defs.specs.Machine.Calls.{call_result}
 use Rattle.erim_defs.specs.Machine.MapCalls.{has_key as page_has_key, PageRange, is_in, with_pages}
 use Rattle.erim_defs.specs.Machine.MapCalls.{with_prot, is_trusted_key, mmap_result}
 use Rattle.erim_defs.specs.Machine.MapCalls.{munmap_result, mprotect_result}
-use Rattle.erim_defs.specs.Machine.MapCalls.{pkey_mprotect_result, pkey_alloc_result}
-use Rattle.erim_defs.specs.Machine.MapCalls.{pkey_free_result}
+use Rattle.erim_defs.specs.Machine.MapCalls.{pkey_mprotect_result}
 use Rattle.erim_defs.specs.Machine.Step.{behind_syscall, fetch}
 use Rattle.erim_defs.specs.Machine.Isolation.{IsKept, Stands, PositionFact}
 use Rattle.isolation.specs.Laws.{Reaches, Changes, PageRights, PageBytes, MakesCall, Touches}
@@ -39,11 +38,13 @@ use Rattle.erim_defs.proofs.WriteLemmas.{stop_or_none}
 use Rattle.isolation.proofs.StandLemmas.{called_check, is_leave, place_after, place_plan, runs_same}
 use Rattle.isolation.proofs.KeptLemmas.{code_kind, entered_zero, reply_quit}
 use Rattle.isolation.proofs.AnswerLemmas.{refuse_answer, answer_is, row_answer, none_of}
-use Rattle.isolation.proofs.AnswerLemmas.{LeavesPages}
+use Rattle.isolation.proofs.AnswerLemmas.{LeavesPages, row_here}
 use Rattle.isolation.proofs.MapCallLemmas.{Remaps, Protects, anew_of, anew_key, mmap_remaps}
 use Rattle.isolation.proofs.MapCallLemmas.{munmap_remaps, mprotect_protects, IsNew, IsApart}
 use Rattle.isolation.proofs.MapCallLemmas.{pkey_mprotect_protects, pkey_alloc_leaves}
 use Rattle.isolation.proofs.MapCallLemmas.{pkey_free_leaves}
+use Rattle.isolation.proofs.ThreadCallLemmas.{clone_leaves, gettid_leaves, sched_yield_leaves}
+use Rattle.isolation.proofs.HeapCallLemmas.{talloc_leaves, tfree_leaves}
 use Rattle.isolation.proofs.AlwaysLemmas.{IsGood}
 use Rattle.isolation.proofs.GrammarFacts.{Known, decoder}
 use Rattle.isolation.proofs.RunLemmas.{entered_reg, run_good, stands_now}
@@ -305,18 +306,9 @@ pkey_mprotect_open : (s : State) (t : Thread) (addr len prot key v q : ℕ) (c :
 pkey_mprotect_open s t addr len prot key v q c e =
     protects_open s t q c (pkey_mprotect_protects s t addr len prot key v c e)
 
--- pkey_alloc and pkey_free leave the pages
+-- what leaves the pages
 leaves_open : (s : State) (t : Thread) (q : ℕ) (c : Change) → LeavesPages s t c → Opens s t q c
 leaves_open s t q c l = left_open s t q c l.rights l.bytes
-
-pkey_alloc_open : (s : State) (t : Thread) (flags bits v q : ℕ) (c : Change) → IsKept s
-    → pkey_alloc_result s t flags bits ≡ Answer v c → Opens s t q c
-pkey_alloc_open s t flags bits v q c h e =
-    leaves_open s t q c (pkey_alloc_leaves s t flags bits v c h e)
-
-pkey_free_open : (s : State) (t : Thread) (key v q : ℕ) (c : Change) → IsKept s
-    → pkey_free_result s t key ≡ Answer v c → Opens s t q c
-pkey_free_open s t key v q c h e = leaves_open s t q c (pkey_free_leaves s t key v c h e)
 
 -- a row a call
 reply_open : (s : State) (v q number : ℕ) (t : Thread) (c : Change) → IsKept s
@@ -331,15 +323,27 @@ reply_open s v q number t c h e =
     (mprotect_open s t (register t 7) (register t 6) (register t 2) v q c)
     (row_answer (Opens s t q c) (eqb (register t 0) 11) _ _ v c
     (munmap_open s t (register t 7) (register t 6) v q c)
+    (row_answer (Opens s t q c) (eqb (register t 0) 24) _ _ v c
+    (λ k. leaves_open s t q c (sched_yield_leaves s t v c h k))
+    (row_here (Opens s t q c) (eqb (register t 0) 56) _ _ v c
+    (λ n k. leaves_open s t q c (clone_leaves s t (register t 7) (register t 6) v c h n k))
+    (row_answer (Opens s t q c) (eqb (register t 0) 60) _ _ v c
+    (λ k. absurd cc)
+    (row_answer (Opens s t q c) (eqb (register t 0) 186) _ _ v c
+    (λ k. leaves_open s t q c (gettid_leaves s number t v c h k))
     (row_answer (Opens s t q c) (eqb (register t 0) 231) _ _ v c
     (λ k. absurd cc)
     (row_answer (Opens s t q c) (eqb (register t 0) 329) _ _ v c
     (pkey_mprotect_open s t (register t 7) (register t 6) (register t 2) (register t 10) v q c)
     (row_answer (Opens s t q c) (eqb (register t 0) 330) _ _ v c
-    (pkey_alloc_open s t (register t 7) (register t 6) v q c h)
+    (λ k. leaves_open s t q c (pkey_alloc_leaves s t (register t 7) (register t 6) v c h k))
     (row_answer (Opens s t q c) (eqb (register t 0) 331) _ _ v c
-    (pkey_free_open s t (register t 7) v q c h)
-    (λ k. absurd cc)))))))) e
+    (λ k. leaves_open s t q c (pkey_free_leaves s t (register t 7) v c h k))
+    (row_answer (Opens s t q c) (eqb (register t 0) 1000) _ _ v c
+    (λ k. leaves_open s t q c (talloc_leaves s t (register t 7) v c h k))
+    (row_answer (Opens s t q c) (eqb (register t 0) 1001) _ _ v c
+    (λ k. leaves_open s t q c (tfree_leaves s t (register t 7) v c h k))
+    (λ k. absurd cc)))))))))))))) e
 
 reply_write : (s : State) (number : ℕ) (t : Thread) → register t 0 ≡ 1
     → call_result s number t ≡ write_result s t (register t 7) (register t 6) (register t 2)

@@ -1,6 +1,6 @@
 -- Laws of every run beside the isolation invariant. Own, after ERIM.
 use Rattle.std.specs.Prelude.{◌≡◌, ◌≢◌, ◌⊎◌, ◌↔◌, ◌<◌, ◌≤◌, ◌+◌, ◌/◌, ◌%◌, ◌==◌, ℕ, Bool, true}
-use Rattle.std.specs.Prelude.{false, Option, Some, None, List, [], ◌∷◌, slice_get}
+use Rattle.std.specs.Prelude.{false, Option, Some, None, List, [], ◌∷◌, length, slice_get}
 use Rattle.erim_defs.specs.declared.machine.Thread.{Thread}
 use Rattle.erim_defs.specs.declared.machine.Rights.{Rights}
 use Rattle.erim_defs.specs.declared.machine.Entry.{Entry}
@@ -154,6 +154,37 @@ OpenLaw = (s new : State) (t i : ℕ) (a b old : Thread) → CanStep s t old →
     → slice_get s.threads i ≡ Some a → slice_get new.threads i ≡ Some b
     → is_open (trust_of s) a.pkru ≡ false → is_open (trust_of s) b.pkru ≡ true → Opened s t i a b
 
+-- ---- a thread that is made
+
+-- old, which is thread t of s, makes the thread u of this number; new is the state behind that step
+pub record IsMade (s new : State) (t number : ℕ) (old u : Thread) : Type 0 where
+  -- the system call clone, 56
+  pub insn : Insn
+  pub len : ℕ
+  pub skip : ℕ
+  pub runs : fetch (code s) old.rip ≡ Runs insn len skip
+  pub called : effect (plan insn len old) (whole s.rights) s.bytes old.pkru old.rip ≡ Called
+  pub clone : register old 0 ≡ 56
+  -- the next number
+  pub next : number ≡ length s.threads
+  -- its maker behind that step: it stands where its maker stands, and is open exactly where its
+  -- maker is
+  pub maker : Thread
+  pub at : slice_get new.threads t ≡ Some maker
+  pub rip : u.rip ≡ maker.rip
+  pub key : is_open (trust_of new) u.pkru ≡ is_open (trust_of new) maker.pkru
+  pub live : u.live ≡ true
+  pub from : u.origin ≡ maker.origin
+  -- none where it is closed or in trusted text
+  pub origin : is_outside (trust_of new) u ≡ false → u.origin ≡ None
+  -- as it is until an escape
+  pub inside : new.escape ≡ None → is_outside (trust_of new) u ≡ false
+
+abbrev pub MadeLaw : Type 0
+MadeLaw = (s new : State) (t number : ℕ) (old u : Thread) → CanStep s t old → step t s ≡ Some new
+    → slice_get s.threads number ≡ None → slice_get new.threads number ≡ Some u
+    → IsMade s new t number old u
+
 -- ---- how a page is published
 
 -- an exec fault on a mapped page q that asks PROT_EXEC, with nothing unsafe in the code with that
@@ -189,3 +220,36 @@ abbrev pub RefuseLaw : Type 0
 RefuseLaw = (s new : State) (t u q : ℕ) (found : Found) (old : Thread) → CanStep s t old
     → step t s ≡ Some new → ((new.end ≡ Some (Refused q found u)) ↔ ((u ≡ t)
     × IsRefusal s q found old))
+
+-- ---- all of it, of one step and of each step of each run
+
+-- a step of thread t leads from s to new, and old is that thread before it
+pub record IsLawful (t : ℕ) (s new : State) : Type 0 where
+  pub old : Thread
+  pub at : slice_get s.threads t ≡ Some old
+  pub live : old.live ≡ true
+  -- before an escape, who touches trusted memory is open in trusted text
+  pub touches : s.escape ≡ None → Touches s t old → is_inside (trust_of s) old ≡ true
+  -- before an escape, what an open thread outside trusted text does
+  pub checks : s.escape ≡ None → is_outside (trust_of s) old ≡ true → ChecksOn s new t old
+  -- how a thread that was there comes to be open
+  pub opens : (i : ℕ) (a b : Thread) → slice_get s.threads i ≡ Some a
+      → slice_get new.threads i ≡ Some b → is_open (trust_of s) a.pkru ≡ false
+      → is_open (trust_of s) b.pkru ≡ true → Opened s t i a b
+  -- how a thread is made
+  pub makes : (number : ℕ) (u : Thread) → slice_get s.threads number ≡ None
+      → slice_get new.threads number ≡ Some u → IsMade s new t number old u
+  -- when a page is published
+  pub publishes : (q : ℕ) → is_published (s.rights q) ≡ false
+      → ((is_published (new.rights q) ≡ true) ↔ IsPublication s q old)
+  -- when a page is refused
+  pub refuses : (u q : ℕ) (found : Found)
+      → ((new.end ≡ Some (Refused q found u)) ↔ ((u ≡ t) × IsRefusal s q found old))
+
+-- each step of each run from a setup
+abbrev pub AreLawful : Setup → Type 0
+AreLawful setup = (entries : List Entry) (s new : State) (t : ℕ) → replay setup entries ≡ Some s
+    → step t s ≡ Some new → IsLawful t s new
+
+abbrev pub LawfulLaw : Type 0
+LawfulLaw = (setup : Setup) → IsStartable setup → AreLawful setup

@@ -1,7 +1,10 @@
 //! `run`: runs an image, saves the journal of the run, and prints its report.
 
-ghost use Rattle.std.specs.Prelude.{◌≡◌, [], IfOk};
+ghost use Rattle.std.specs.Prelude.{◌≡◌, IfOk};
+ghost use Rattle.erim_defs.specs.Machine.Replay.{IsOver};
 ghost use Rattle.erim_defs.specs.Output.Words.{Run};
+ghost use Rattle.erim_process.specs.ProcessValue.{state_of};
+ghost use Rattle.thread_runner.specs.Running.{AreAlone};
 ghost use Rattle.erim_commands.specs.declared.reply.Status.TheVariants.{ImageRefused};
 ghost use Rattle.erim_commands.specs.CallParts.{IsMadeFor, reply_of};
 ghost use Rattle.erim_commands.specs.Commands.{AreRunNumbers, plan_of, run_setup, started_run};
@@ -13,19 +16,22 @@ use crate::journal::write_journal;
 use crate::loads::{image_refused, load_image};
 use crate::reply::{Reply, Save, Status};
 use crate::report::report;
-use crate::schedule::finish;
 use crate::text::start_line;
 use elf_image::Image;
 use erim_defs::{End, NoMemory};
 use erim_io::{Sink, Store};
 use erim_process::{Process, Setup, StartFault};
 use std::alloc::Global;
+use thread_runner::run_serial;
 
 /// How many steps a run may make.
 pub const STEPS: u32 = 1_000_000;
 
 /// How many pages a run may map.
 pub const FRAMES: u32 = 1024;
+
+/// How many steps a thread makes in a row, before the next one's turn.
+const QUANTUM: u32 = 64;
 
 /// The status of a process that has ended, or whose budget is spent.
 fn end_status(end: Option<End>) -> Status
@@ -38,17 +44,12 @@ fn end_status(end: Option<End>) -> Status
     }
 }
 
-/// Runs a process to its end, and answers its report and its journal, which is to be saved under
-/// the name.
-fn run_reply<'a>(
-    alloc: Global,
-    process: &mut Process,
-    journal: &'a str,
-) -> Result<Reply<'a>, NoMemory>
-    requires { process.old.journal ≡ [] }
-    ensures { IfOk result (λ reply. IsRunReply journal.now process.old.setup (reply_of reply)) }
+/// The report of a process that has run, and its journal, which is to be saved under the name.
+fn run_reply<'a>(alloc: Global, process: &Process, journal: &'a str) -> Result<Reply<'a>, NoMemory>
+    requires over { IsOver (state_of process.now) }
+    requires alone { AreAlone process.now.journal }
+    ensures { IfOk result (λ reply. IsRunReply journal.now process.now.setup (reply_of reply)) }
 {
-    finish(process);
     let setup = process.setup();
     let bytes = write_journal(alloc, process.journal(), setup.budget, setup.frames)?;
     let text = report(alloc, process)?;
@@ -72,7 +73,7 @@ fn unstarted<'a>(alloc: Global, fault: &StartFault) -> Result<Reply<'a>, NoMemor
     }
 }
 
-/// Starts the image and runs it, or says why it can't start.
+/// Runs the image, or says why it can't start.
 fn started_reply<'a>(
     alloc: Global,
     image: Image,
@@ -89,8 +90,8 @@ fn started_reply<'a>(
         budget: steps,
         frames,
     };
-    match Process::start(alloc, setup) {
-        Ok(mut process) => run_reply(alloc, &mut process, journal),
+    match run_serial(alloc, setup, QUANTUM) {
+        Ok(process) => run_reply(alloc, &process, journal),
         Err(StartFault::Memory) => Err(NoMemory),
         Err(fault) => unstarted(alloc, &fault),
     }

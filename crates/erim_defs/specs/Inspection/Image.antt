@@ -2,7 +2,7 @@
 -- ELF-64 Object File Format, "File header", "Program header" and "Note section"; the trust note,
 -- the order of the faults and the limits are own.
 use Rattle.std.specs.Prelude.{◌≡◌, ℕ, ◌+◌, ◌-◌, ◌*◌, ◌/◌, ◌%◌, ◌^◌, ◌<◌, ◌≤◌, ◌==◌, ◌&&◌, ◌||◌}
-use Rattle.std.specs.Prelude.{nat_lt, nat_le, not, Bool, true, false, Option, Some, None, is_some}
+use Rattle.std.specs.Prelude.{nat_lt, nat_le, not, Bool, true, false, Option, Some, None}
 use Rattle.std.specs.Prelude.{sum_by, List, [], ◌∷◌, ◌++◌, length, zero, suc, slice_index}
 use Rattle.std.specs.Prelude.{slice_range, codes, if◌then◌else◌}
 use Rattle.std.specs.List.{list_any}
@@ -17,7 +17,7 @@ use Rattle.erim_defs.specs.declared.fault.ImageFault.TheVariants.{SharedPage, No
 use Rattle.erim_defs.specs.declared.fault.ImageFault.TheVariants.{NoteVersion, BadRecord}
 use Rattle.erim_defs.specs.declared.fault.ImageFault.TheVariants.{TextNotExec, DataRange}
 use Rattle.erim_defs.specs.declared.fault.ImageFault.TheVariants.{EntryNotTrusted, EntryPoint}
-use Rattle.erim_defs.specs.declared.fault.ImageFault.TheVariants.{NotYet}
+use Rattle.erim_defs.specs.declared.fault.ImageFault.TheVariants.{BadFunction}
 use Rattle.erim_defs.specs.declared.elf.TheConstants.{EI_CLASS, EI_DATA, EI_VERSION, ELFCLASS64}
 use Rattle.erim_defs.specs.declared.elf.TheConstants.{ELFDATA2LSB, EM_X86_64, ET_EXEC, EV_CURRENT}
 use Rattle.erim_defs.specs.declared.elf.TheConstants.{E_ENTRY, E_MACHINE, E_PHENTSIZE, E_PHNUM}
@@ -27,7 +27,8 @@ use Rattle.erim_defs.specs.declared.elf.TheConstants.{P_FLAGS, P_MEMSZ, P_OFFSET
 use Rattle.erim_defs.specs.declared.elf.TheConstants.{WIDE_NOTE_ALIGNMENT}
 use Rattle.erim_defs.specs.declared.limits.TheConstants.{MOST_FUNCTIONS, MOST_HEADERS, MOST_PAGES}
 use Rattle.erim_defs.specs.declared.limits.TheConstants.{MOST_RECORDS}
-use Rattle.erim_defs.specs.declared.note.TheConstants.{FUNCTIONS_NOTE, FUNCTION_SIZE, NOTE_COUNT}
+use Rattle.erim_defs.specs.declared.note.TheConstants.{FUNCTIONS_NOTE, FUNCTION_LENGTH}
+use Rattle.erim_defs.specs.declared.note.TheConstants.{FUNCTION_SIZE, NOTE_COUNT}
 use Rattle.erim_defs.specs.declared.note.TheConstants.{NOTE_VERSION, RECORD_KEY, RECORD_LENGTH}
 use Rattle.erim_defs.specs.declared.note.TheConstants.{RECORD_SIZE, RECORD_START, TRUSTED_DATA}
 use Rattle.erim_defs.specs.declared.note.TheConstants.{TRUSTED_ENTRY, TRUSTED_HEAP}
@@ -430,6 +431,46 @@ unfoldable pub entry_fault : ℕ → List Record → List Record → List Record
 entry_fault index all seen rs =
     first_failing (λ _ r. is_placed_entry all r) EntryNotTrusted index seen rs
 
+-- ---- functions of the functions note: start and length of 8 bytes each
+
+abbrev pub function_at : List ℕ → ℕ → Span
+function_at bytes place = record {
+  start = number_at bytes place 8;
+  length = number_at bytes (place + FUNCTION_LENGTH) 8;
+}
+
+unfoldable pub functions_from : List ℕ → ℕ → ℕ → List Span
+functions_from bytes place zero = []
+functions_from bytes place (suc n) = function_at bytes place ∷ functions_from bytes (place + 16) n
+
+-- the functions of the first functions note; an image without one has none
+unfoldable pub functions_in : List ℕ → List Note → List Span
+functions_in bytes [] = []
+functions_in bytes (note ∷ others) =
+    if is_functions note then functions_from bytes (note.desc + 8) (item_count bytes note)
+    else functions_in bytes others
+
+-- the functions that an image tells, in the order of the note
+unfoldable pub image_functions : List ℕ → List Span
+image_functions bytes = functions_in bytes (notes bytes)
+
+-- the file part of an executable segment has the whole function
+abbrev pub holds_function : Span → Segment → Bool
+holds_function f s = is_executable s
+    && (nat_le s.vaddr f.start && nat_le (f.start + f.length) (s.vaddr + s.filesz))
+
+-- it starts at the end of the function before it, or above
+abbrev pub is_behind : List Span → Span → Bool
+is_behind [] f = true
+is_behind (before ∷ others) f = nat_le (before.start + before.length) f.start
+
+abbrev pub is_function : List Segment → List Span → Span → Bool
+is_function ss seen f =
+    nat_lt 0 f.length && (list_any (holds_function f) ss && is_behind seen f)
+
+unfoldable pub function_fault : ℕ → List Segment → List Span → List Span → Option ImageFault
+function_fault index ss seen fs = first_failing (is_function ss) BadFunction index seen fs
+
 -- ---- all faults, in their order
 
 abbrev pub has_magic : List ℕ → Bool
@@ -485,17 +526,14 @@ entry_point_fault bytes =
 
 unfoldable pub later_fault : List ℕ → Option ImageFault
 later_fault bytes = or_else (header_fault bytes)
-    (or_else (segment_fault bytes) (or_else (trust_fault bytes) (entry_point_fault bytes)))
+    (or_else (segment_fault bytes)
+    (or_else (trust_fault bytes)
+    (or_else (function_fault 0 (segments bytes) [] (image_functions bytes))
+    (entry_point_fault bytes))))
 
--- functions aren't read yet
-abbrev pub has_functions : List ℕ → Bool
-has_functions bytes = list_any is_functions (notes bytes)
-
--- the first fault of an image. So far the later ones have one name, which an image with functions
--- has too
+-- the first fault of an image
 unfoldable pub first_fault : List ℕ → Option ImageFault
-first_fault bytes = or_else (head_fault bytes) (fault_if (is_some (later_fault bytes)
-    || has_functions bytes) NotYet)
+first_fault bytes = or_else (head_fault bytes) (later_fault bytes)
 
 -- an image is accepted where it has no fault
 abbrev pub IsAccepted : List ℕ → Type 0

@@ -94,6 +94,7 @@ first_state setup = record {
   bytes = image_byte setup.image;
   threads = first_thread setup ∷ [];
   keys = λ k. nat_lt k 2;
+  blocks = [];
   output = [];
   end = None;
   steps = 0;

@@ -7,6 +7,7 @@ use Rattle.erim_defs.specs.declared.found.Found.{Found}
 use Rattle.erim_defs.specs.declared.machine.End.{End}
 use Rattle.erim_defs.specs.declared.machine.Escape.{Escape}
 use Rattle.erim_defs.specs.declared.page.TheConstants.{TRUSTED_KEY}
+use Rattle.erim_defs.specs.declared.trust.Span.{Span}
 use Rattle.erim_defs.specs.Inspection.Code.{Code, or_else}
 use Rattle.erim_defs.specs.Machine.Pages.{RightsMap, ByteMap, published_code}
 use Rattle.erim_defs.specs.Machine.Access.{opens}
@@ -33,6 +34,8 @@ pub record State : Type 0 where
   pub threads : List Thread
   -- which protection keys are allocated
   pub keys : ℕ → Bool
+  -- the live blocks of the trusted heap, by rising address
+  pub blocks : List Span
   -- what was written
   pub output : List ℕ
   -- how the process ended, if it has

@@ -33,8 +33,9 @@ use Rattle.erim_defs.specs.Machine.Plan.{Effect, Done, Stopped, Called, effect, 
 use Rattle.erim_defs.specs.Machine.Registers.{eax, with_register, onward}
 use Rattle.erim_defs.specs.Machine.Meaning.{plan}
 use Rattle.erim_defs.specs.Machine.State.{State, code, trust_of, with_origin, is_escape}
-use Rattle.erim_defs.specs.Machine.State.{first_escape}
-use Rattle.erim_defs.specs.Machine.CallResult.{Change, CallResult, Refusal, Answer, Quit}
+use Rattle.erim_defs.specs.Machine.State.{first_escape, any_live}
+use Rattle.erim_defs.specs.Machine.CallResult.{Change, CallResult, Refusal, Answer, ThreadEnd}
+use Rattle.erim_defs.specs.Machine.CallResult.{Quit}
 use Rattle.erim_defs.specs.Machine.Calls.{call_result}
 
 -- ---- fetch: what the published bytes from an address on begin with, at most 15 of them
@@ -143,11 +144,21 @@ with_new_thread (Some u) s =
     record s { threads = s.threads ++ with_origin (trust_of s) None u ∷ [] }
 
 abbrev pub with_change : Change → State → State
-with_change c s = record s { rights = c.rights; bytes = c.bytes; keys = c.keys; output = c.output }
+with_change c s = record s {
+  rights = c.rights;
+  bytes = c.bytes;
+  keys = c.keys;
+  blocks = c.blocks;
+  output = c.output;
+}
 
 -- the caller t behind a call that isn't refused
 abbrev pub caller_after : ℕ → Change → Thread → Thread
 caller_after value c t = (let u = with_register t RAX value in record u { pkru = c.pkru })
+
+-- the process ends with its last live thread
+abbrev pub with_last_end : ℕ → State → State
+with_last_end status s = if any_live s.threads then s else with_end (Exit status) s
 
 -- t is the caller behind SYSCALL
 abbrev pub after_call : CallResult → Runner → Thread → State → State
@@ -162,6 +173,9 @@ after_call (Answer v c) r t s =
     with_new_thread c.made
     (after_move (record { runner = r; after = caller_after v c t; executed = None; free = false })
     (with_change c s))
+after_call (ThreadEnd status) r t s =
+    with_last_end status (after_move
+    (record { runner = r; after = record t { live = false }; executed = None; free = false }) s)
 after_call (Quit status) r t s =
     with_end (Exit status) (after_move
     (record { runner = r; after = t; executed = None; free = false }) s)

@@ -13,7 +13,7 @@ use Rattle.erim_defs.specs.declared.fault.ImageFault.TheVariants.{SharedPage, No
 use Rattle.erim_defs.specs.declared.fault.ImageFault.TheVariants.{NoteVersion, BadRecord}
 use Rattle.erim_defs.specs.declared.fault.ImageFault.TheVariants.{TextNotExec, DataRange}
 use Rattle.erim_defs.specs.declared.fault.ImageFault.TheVariants.{EntryNotTrusted, EntryPoint}
-use Rattle.erim_defs.specs.declared.fault.ImageFault.TheVariants.{NotYet, Memory}
+use Rattle.erim_defs.specs.declared.fault.ImageFault.TheVariants.{BadFunction, Memory}
 
 abbrev pub line : List ℕ → List ℕ
 line text = text ++ 10 ∷ []
@@ -61,8 +61,8 @@ fault_text (BadRecord index) = codes "image record " ++ decimal index
 fault_text (TextNotExec index) = codes "image record " ++ decimal index ++ codes " text"
 fault_text (DataRange index) = codes "image record " ++ decimal index ++ codes " data"
 fault_text (EntryNotTrusted index) = codes "image record " ++ decimal index ++ codes " entry"
+fault_text (BadFunction index) = codes "image function " ++ decimal index
 fault_text EntryPoint = codes "image entry point"
-fault_text NotYet = codes "image not yet"
 fault_text Memory = codes "out of memory"
 
 -- a line that says why a command did nothing

@@ -18,5 +18,5 @@ pub returns : goal.returns
 returns c = (
   trust_records _ _ _ c.in_ok-seen.ensures.0 c.in_ok-seen.ensures.1
       (not-false _ c.if-not-seen.false) (c.records.ensures.same _) ∙ sym c.in_default.ensures,
-  record { seen_is = c.in_ok-seen.ensures.1; records = c.in_ok-seen.ensures.2 },
+  record { seen_is = c.in_ok-seen.ensures.1; items = c.in_ok-seen.ensures.2 },
 )

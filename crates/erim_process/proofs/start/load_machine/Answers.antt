@@ -1,7 +1,11 @@
-use Rattle.std.proofs.Common.{arith, ◌≡◌, ◌∷◌, ◌++◌, [], sum_by, List, sym, ap, ◌∙◌}
+use Rattle.std.proofs.Common.{arith, ◌≡◌, ◌∷◌, [], sum_by, List, sym, subst, ap, ◌∙◌}
+use Rattle.std.specs.List.{All}
 use Rattle.erim_defs.specs.declared.segment.Segment.{Segment}
 use Rattle.erim_defs.specs.declared.machine.Thread.{Thread}
 use Rattle.erim_defs.specs.Inspection.Image.{page_count, segments}
+use Rattle.erim_defs.proofs.AcceptedLemmas.{heaps_low}
+use Rattle.trusted_heap.specs.Blocks.{EndsLow}
+use Rattle.trusted_heap.specs.HeapValue.{HeapValue}
 use Rattle.erim_process.specs.ProcessInvariant.{setup_of}
 use Rattle.erim_process.proofs.SegmentLemmas.{first_rights_is, image_byte_is, frames_needed_is}
 use Rattle.erim_process.proofs.StartLemmas.{loaded_is}
@@ -28,9 +32,11 @@ returns-clause-state c =
     ) at c.load_pages.ensures.rights in
     let bytes = rw (c.bytes.ensures.bytes, c.segments.ensures.list) at c.load_pages.ensures.bytes in
     let first = c.first_thread.ensures setup (sym c.entry.ensures) (sym c.trust-2.ensures) in
-    loaded_is setup _ _ _ _ (rights ∙ sym (first_rights_is setup)) (bytes
+    loaded_is setup _ _ _ _ _ (rights ∙ sym (first_rights_is setup)) (bytes
     ∙ sym (image_byte_is setup.image))
-    (c.in_ok-push.ensures.items
-    ∙ ap (λ (ts : List Thread). ts ++ c.first_thread.result ∷ []) c.in_ok-threads.ensures.items
-    ∙ ap (λ (t : Thread). t ∷ []) first)
-    c.in_ok-output.ensures.items
+    (c.in_ok-threads.ensures ∙ ap (λ (t : Thread). t ∷ []) first)
+    (ap (λ (h : HeapValue). h.blocks) c.in_ok-heap.ensures) c.in_ok-output.ensures
+
+pub new-requires-3 : goal.new-requires-3
+new-requires-3 c = subst (All EndsLow) (sym c.heaps-2.ensures)
+    (heaps_low c.args.setup.now.image c.bytes.ensures.accepted)

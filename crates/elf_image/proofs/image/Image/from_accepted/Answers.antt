@@ -1,6 +1,7 @@
 use Rattle.std.proofs.Common.{◌∙◌}
 use Rattle.elf_image.proofs.ImageLemmas.{accepted_table, data_value, heaps_value, read_image_is}
 use Rattle.elf_image.proofs.ImageLemmas.{trust_value}
+use Rattle.elf_image.proofs.RowLemmas.{functions_are}
 use Rattle.elf_image.proofs.image.Image.from_accepted.Goals as goal
 
 pub segments-requires : goal.segments-requires
@@ -23,5 +24,7 @@ invariant_of-result c =
           c.new-trust.ensures;
       trusted_is = data_value _ _ _ table c.in_ok-spans.ensures;
       heaps_is = heaps_value _ _ _ table c.in_ok-spans-2.ensures;
+      functions_is = c.in_ok-functions.ensures
+          ∙ functions_are _ _ _ c.requires.notes (c.functions.ensures.same c.args.bytes.now);
       entry_is = c.entry_point.ensures;
     }

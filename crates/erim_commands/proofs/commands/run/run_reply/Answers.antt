@@ -15,7 +15,7 @@ write_journal-requires c =
 
 pub returns : goal.returns
 returns c =
-    let p = c.finish.new.process in
+    let p = c.args.process.now in
     let status = c.end_status.ensures
     ∙ ap (λ (end : Option End). end_status end) c.end.ensures.value in
     let text = c.in_ok-text.ensures in
@@ -30,13 +30,13 @@ returns c =
     })) entries
     ∙ ap (λ (s : Setup). journal_text (journal_of s p.journal)) setup in
     let Q : List Entry → Type 0 = λ es. IsJournal (journal_of p.setup es) in
-    run_replied c.args.process.now.setup p.setup c.args.journal.now p.journal (state_of p) _ _ _
-    c.finish.ensures.setup
+    run_replied p.setup c.args.journal.now p.journal (state_of p) _ _ _
     (record {
       runs = c.journal.ensures.run;
-      over = c.finish.ensures.over;
+      over = c.requires.over;
       form = subst Q entries c.journal.ensures.form;
-      alone = c.finish.ensures.alone;
+      alone = c.requires.alone;
       isolated = c.setup-setup.ensures.isolated;
+      lawful = c.setup-setup.ensures.lawful;
     })
     status text bytes

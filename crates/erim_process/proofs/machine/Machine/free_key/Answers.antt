@@ -1,16 +1,19 @@
-use Rattle.std.proofs.Common.{◌∙◌, ap, sym, refl, ℕ}
-use Rattle.erim_defs.specs.Machine.CallResult.{CallResult}
+use Rattle.std.proofs.Common.{◌∙◌, ap, refl, ℕ}
 use Rattle.erim_defs.specs.Machine.MapCalls.{pkey_free_result}
-use Rattle.erim_defs.specs.Machine.Step.{after_call}
+use Rattle.erim_defs.specs.Machine.Step.{Runner, after_call}
 use Rattle.erim_process.specs.Machine.{machine_state}
+use Rattle.erim_process.proofs.CallLemmas.{key_call, on_err}
 use Rattle.erim_process.proofs.machine.Machine.free_key.Goals as goal
 
-pub returns-in-Ok-clause-state : goal.returns-in-Ok-clause-state
-returns-in-Ok-clause-state g c = λ setup e frames.
-    let s = machine_state g.P.Memory setup c.args.self.now in
+pub returns-clause-state : goal.returns-clause-state
+returns-clause-state g c = λ setup trust frames heaps.
+    let m = c.args.self.now in
+    let s = machine_state g.P.Memory setup m in
     let t = c.args.new.now in
-    let told = c.in-Ok.ensures.answer s t (record { taken = refl; rights = refl }) in
-    c.answer.ensures.state setup e frames
-    ∙ ap (λ (r : CallResult). after_call r
-    (record { number = c.args.t; thread = c.args.old.now }) t s)
-    (sym (sym (ap (λ (k : ℕ). pkey_free_result s t k) c.register.ensures) ∙ told))
+    let r : Runner = record { number = c.args.t; thread = c.args.old.now } in
+    c.answer.ensures.state setup trust frames heaps
+    ∙ key_call g.P.Memory setup m c.pkey_free-outcome.new.keys t.pkru r t c.pkey_free-outcome.result
+    c.returned.result (pkey_free_result s t c.register.result)
+    (c.pkey_free-outcome.ensures.answer s t (record { taken = refl; rights = refl }))
+    c.pkey_free-outcome.ensures.keys (on_err c.pkey_free-outcome.result refl) c.returned.ensures
+    ∙ ap (λ (k : ℕ). after_call (pkey_free_result s t k) r t s) c.register.ensures

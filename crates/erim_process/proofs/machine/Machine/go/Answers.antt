@@ -4,7 +4,7 @@ use Rattle.erim_process.proofs.MoveLemmas.{settled_move}
 use Rattle.erim_process.proofs.machine.Machine.go.Goals as goal
 
 pub returns-clause-state : goal.returns-clause-state
-returns-clause-state g c = λ setup trust frames.
+returns-clause-state g c = λ setup trust frames heaps.
     c.settle.ensures.state setup
     ∙ settled_move (record {
       runner = record { number = c.args.t; thread = c.args.old.now };

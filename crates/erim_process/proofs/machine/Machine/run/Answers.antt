@@ -10,7 +10,7 @@ use Rattle.erim_process.proofs.MoveLemmas.{call_is, effect_on, run_done, whole_e
 use Rattle.erim_process.proofs.machine.Machine.run.Goals as goal
 
 pub returns-in-Done-clause-state : goal.returns-in-Done-clause-state
-returns-in-Done-clause-state g c = λ setup trust frames.
+returns-in-Done-clause-state g c = λ setup trust frames heaps.
     c.settle.ensures.state setup
     ∙ run_done g.P.Memory setup c.args.self.now c.exec.new.memory c.args.trust.now
     (record { insn = c.args.insn.now; len = c.args.len; skip = c.args.skip })
@@ -19,7 +19,7 @@ returns-in-Done-clause-state g c = λ setup trust frames.
     c.in-Done.ensures.answer c.in-Done.ensures.thread c.in-Done.ensures.bytes
 
 pub returns-in-Syscall-clause-state : goal.returns-in-Syscall-clause-state
-returns-in-Syscall-clause-state g c = λ setup trust frames.
+returns-in-Syscall-clause-state g c = λ setup trust frames heaps.
     let m = c.args.self.now in
     let s : State = machine_state g.P.Memory setup m in
     let t = c.args.thread.now in
@@ -33,7 +33,7 @@ returns-in-Syscall-clause-state g c = λ setup trust frames.
     let same : machine_state g.P.Memory setup (record m { pages = c.exec.new.memory }) ≡ s =
     same_machine g.P.Memory setup m (record m { pages = c.exec.new.memory }) refl
     (c.in-Syscall.ensures.seen, bytes, c.in-Syscall.ensures.frames) in
-    c.call.ensures.state setup trust (frames ∙ sym c.in-Syscall.ensures.frames)
+    c.call.ensures.state setup trust (frames ∙ sym c.in-Syscall.ensures.frames) heaps
     ∙ ap (λ (x : State). after_call (call_result x c.args.t c.behind_syscall.result) r
     c.behind_syscall.result x) same
     ∙ ap (λ n. after_call (call_result s c.args.t n) r n s) c.behind_syscall.ensures

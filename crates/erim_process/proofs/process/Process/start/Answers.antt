@@ -15,16 +15,15 @@ invariant_of-result c =
       replayed = replay_start setup c.in_ok-journal.journal.items _ c.in_ok-journal.ensures.items
           c.in_ok-machine.ensures.state;
       entries = no_entries c.in_ok-journal.journal.items c.in_ok-journal.ensures.items;
-      counted = (let none = c.in_ok-machine.ensures.fresh.0 in
+      counted = (let none = c.in_ok-machine.ensures.fresh in
           let len = c.in_ok-journal.ensures.len in omega (arith, none, len));
       room = (let e = c.in_ok-journal.ensures.exact in omega (arith, e));
-      within = (let none = c.in_ok-machine.ensures.fresh.0 in omega (arith, none));
+      within = (let none = c.in_ok-machine.ensures.fresh in omega (arith, none));
       startable = c.startable.ensures setup c.in_ok-machine.ensures.accepted
           c.in_ok-machine.ensures.octets (start_trusted setup c.in_ok-check_start.ensures)
           (start_room setup c.in_ok-check_start.ensures);
-      roomy = c.in_ok-machine.ensures.roomy;
       frames = c.in_ok-machine.ensures.frames;
-      few = (let one = c.in_ok-machine.ensures.fresh.1 in omega (arith, one));
+      heaps = c.in_ok-machine.ensures.heaps;
       alive = λ none. start_live setup _ c.in_ok-machine.ensures.state;
       refused = refused_start setup _ c.in_ok-machine.ensures.state;
     }

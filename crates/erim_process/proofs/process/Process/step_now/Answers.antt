@@ -1,24 +1,26 @@
-use Rattle.std.proofs.Common.{◌+◌, sym, ap, ◌∙◌, refl, arith, Some}
+use Rattle.std.proofs.Common.{◌+◌, sym, ap, subst, ◌∙◌, refl, arith, Some}
 use Rattle.erim_defs.specs.Machine.State.{State}
 use Rattle.erim_defs.specs.Machine.Step.{step}
-use Rattle.erim_process.specs.ProcessValue.{ProcessValue}
+use Rattle.erim_defs.specs.Machine.Isolation.{IsStartable}
+use Rattle.erim_process.specs.ProcessValue.{ProcessValue, state_of}
 use Rattle.erim_process.specs.ProcessInvariant.{setup_of}
 use Rattle.erim_process.specs.StepFacts.{answer}
-use Rattle.erim_process.proofs.ProcessLemmas.{state_seen, state_is, fields_run, safe_held}
+use Rattle.erim_process.proofs.ProcessLemmas.{state_seen, state_is, fields_run, safe_held, seen_run}
 use Rattle.erim_process.proofs.ProcessLemmas.{replay_goes, entries_pushed}
 use Rattle.erim_process.proofs.LiveLemmas.{step_live}
 use Rattle.erim_process.proofs.RefusedLemmas.{refused_step}
 use Rattle.erim_process.proofs.process.Process.step_now.Goals as goal
 
-pub step-requires-clause-safe : goal.step-requires-clause-safe
-step-requires-clause-safe c =
-    safe_held c.always_kept.ensures _ c.self.inside _ c.self.invariant c.trust.ensures
+pub step-requires : goal.step-requires
+step-requires c = record {
+  safe = safe_held c.always_kept.ensures _ c.self.inside _ c.self.invariant c.trust.ensures;
+}
 
 pub invariant_of-self : goal.invariant_of-self
 invariant_of-self c =
     let p = c.self.inside in
     let held = c.self.invariant in
-    let made = c.in-Made.ensures.made (setup_of p.setup) refl (sym c.trust.ensures) held.frames refl in
+    let made = c.in-Made.ensures.made (setup_of p.setup) refl (sym c.trust.ensures) held.frames held.heaps refl in
     let steps = c.in-Made.ensures.steps refl in
     let pushed = rw c.from.ensures at c.push.ensures.items in
     record {
@@ -26,18 +28,15 @@ invariant_of-self c =
           c.push.new.self.items held steps.0 made c.push.ensures.succeeds pushed;
       entries = entries_pushed _ p c.args.thread c.args.worker c.push.result c.push.new.self.items
           held steps.0 c.requires
-          (let few = held.few in let there = c.in-Made.ensures.there refl in
-          omega (arith, few, there)) c.push.ensures.succeeds pushed;
+          (let there = c.in-Made.ensures.there refl in omega (arith, there)) c.push.ensures.succeeds pushed;
       counted = (let counted = held.counted in
           omega (arith, c.push.ensures.upper_bound, counted, steps.1));
       room = (let room = held.room in omega (arith, room, c.push.ensures.capacity));
       within = omega (arith, steps.0, steps.1);
       startable = held.startable;
-      roomy = c.in-Made.ensures.roomy;
       frames = held.frames ∙ sym c.in-Made.ensures.frames;
-      few = (let count = c.in-Made.ensures.count in let few = held.few in
-          omega (arith, count, few));
-      alive = λ none. step_live c.args.thread _ _ made;
+      heaps = held.heaps ∙ sym c.in-Made.ensures.heaps;
+      alive = λ none. step_live c.args.thread _ _ made none;
       refused = refused_step c.args.thread _ _ held.refused made;
     }
 
@@ -50,7 +49,7 @@ pub returns-in-Made-clause-state : goal.returns-in-Made-clause-state
 returns-in-Made-clause-state c = λ _.
     let p = c.self.inside in
     let held = c.self.invariant in
-    let made = c.in-Made.ensures.made (setup_of p.setup) refl (sym c.trust.ensures) held.frames refl in
+    let made = c.in-Made.ensures.made (setup_of p.setup) refl (sym c.trust.ensures) held.frames held.heaps refl in
     let steps = c.in-Made.ensures.steps refl in
     let pushed = rw c.from.ensures at c.push.ensures.items in
     let replayed = replay_goes _ p c.step.new.self c.args.thread c.args.worker c.push.result
@@ -63,7 +62,7 @@ pub returns-in-Made-clause-counted : goal.returns-in-Made-clause-counted
 returns-in-Made-clause-counted c = λ _.
     let p = c.self.inside in
     let held = c.self.invariant in
-    let made = c.in-Made.ensures.made (setup_of p.setup) refl (sym c.trust.ensures) held.frames refl in
+    let made = c.in-Made.ensures.made (setup_of p.setup) refl (sym c.trust.ensures) held.frames held.heaps refl in
     let steps = c.in-Made.ensures.steps refl in
     let pushed = rw c.from.ensures at c.push.ensures.items in
     let replayed = replay_goes _ p c.step.new.self c.args.thread c.args.worker c.push.result
@@ -79,7 +78,7 @@ pub returns-in-Made-clause-run : goal.returns-in-Made-clause-run
 returns-in-Made-clause-run c =
     let p = c.self.inside in
     let held = c.self.invariant in
-    let made = c.in-Made.ensures.made (setup_of p.setup) refl (sym c.trust.ensures) held.frames refl in
+    let made = c.in-Made.ensures.made (setup_of p.setup) refl (sym c.trust.ensures) held.frames held.heaps refl in
     let steps = c.in-Made.ensures.steps refl in
     let pushed = rw c.from.ensures at c.push.ensures.items in
     let replayed = replay_goes _ p c.step.new.self c.args.thread c.args.worker c.push.result
@@ -115,3 +114,32 @@ pub returns-in-NotLive-clause-run : goal.returns-in-NotLive-clause-run
 returns-in-NotLive-clause-run c =
     fields_run (setup_of c.self.inside.setup) c.self.inside.journal.items _
     c.self.invariant.replayed
+
+pub returns-in-Made-clause-kept : goal.returns-in-Made-clause-kept
+returns-in-Made-clause-kept c =
+    c.always_kept.ensures (setup_of c.self.inside.setup) c.push.new.self.items _
+    c.self.invariant.startable (returns-in-Made-clause-run c)
+
+pub returns-in-Made-clause-lawful : goal.returns-in-Made-clause-lawful
+returns-in-Made-clause-lawful c = λ made.
+    let v = c.args.self.now in
+    let startable : IsStartable v.setup =
+    subst (λ (w : ProcessValue). IsStartable w.setup) c.self.view_is c.self.invariant.startable in
+    c.lawful.ensures v.setup startable v.journal (state_of v) _ c.args.thread
+    (seen_run _ c.self.inside _ c.self.view_is c.self.invariant)
+    (returns-in-Made-clause-state c made)
+
+pub returns-in-Ended-clause-kept : goal.returns-in-Ended-clause-kept
+returns-in-Ended-clause-kept c =
+    c.always_kept.ensures (setup_of c.self.inside.setup) c.self.inside.journal.items _
+    c.self.invariant.startable (returns-in-Ended-clause-run c)
+
+pub returns-in-Spent-clause-kept : goal.returns-in-Spent-clause-kept
+returns-in-Spent-clause-kept c =
+    c.always_kept.ensures (setup_of c.self.inside.setup) c.self.inside.journal.items _
+    c.self.invariant.startable (returns-in-Spent-clause-run c)
+
+pub returns-in-NotLive-clause-kept : goal.returns-in-NotLive-clause-kept
+returns-in-NotLive-clause-kept c =
+    c.always_kept.ensures (setup_of c.self.inside.setup) c.self.inside.journal.items _
+    c.self.invariant.startable (returns-in-NotLive-clause-run c)

@@ -1,16 +1,16 @@
-use Rattle.std.proofs.Common.{◌<◌, length, ◌∙◌, arith}
+use Rattle.std.proofs.Common.{◌<◌, length}
 use Rattle.erim_process.proofs.ProcessLemmas.{state_seen, get_or_any}
 use Rattle.erim_process.proofs.process.Process.thread.Goals as goal
 
-pub index-requires : goal.index-requires
-index-requires c =
-    let h : c.args.thread < length c.self.inside.machine.threads.items =
+pub bounds-list-thread : goal.bounds-list-thread
+bounds-list-thread c =
+    let h : c.args.thread < length c.self.inside.machine.threads =
     rw (state_seen _ c.self.inside _ c.self.view_is c.self.invariant) at c.requires in
-    grind (arith, h)
+    rw c.list.ensures.list h
 
 pub returns : goal.returns
 returns c = λ d.
-    let h : c.args.thread < length c.self.inside.machine.threads.items =
+    let h : c.args.thread < length c.self.inside.machine.threads =
     rw (state_seen _ c.self.inside _ c.self.view_is c.self.invariant) at c.requires in
-    rw (state_seen _ c.self.inside _ c.self.view_is c.self.invariant) (c.index.ensures
-    ∙ get_or_any c.self.inside.machine.threads.items c.args.thread c.index.result.now d h)
+    rw (state_seen _ c.self.inside _ c.self.view_is c.self.invariant, c.list.ensures.list)
+    (get_or_any c.self.inside.machine.threads c.args.thread _ d h)
