@@ -218,3 +218,19 @@ pub functions_end : (bytes : List ℕ) (table : FunctionTable) (index : ℕ) (li
     → table.count ≤ index → list ++ functions_left bytes table index ≡ list
 functions_end bytes table index list past =
     rw (left-none bytes table index past) (append-nil list)
+
+-- ---- by function, for the goals of its loop
+
+pub ruleset functions_steps = (functions_begin, functions_take, functions_end)
+
+pub ruleset fault_steps = (
+  fault_begins,
+  fault_stops_within,
+  fault_stops_behind,
+  fault_goes_on,
+  fault_ends,
+  last_none,
+  last_next,
+)
+
+pub ruleset within_steps = (within_begins, within_stops, within_goes_on, within_ends, within_near)

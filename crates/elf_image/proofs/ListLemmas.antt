@@ -85,3 +85,11 @@ pub entries_end : (bytes : List ℕ) (table : RecordTable) (index : ℕ) (list :
     → table.count ≤ index → list ++ starts_of (records_left bytes table index) ≡ list
 entries_end bytes table index list past =
     rw (records_left-none bytes table index past) (append-nil list)
+
+-- ---- by function, for the goals of its loop
+
+pub ruleset segments_steps = (segments_begin, segments_load, segments_pass, segments_end)
+
+pub ruleset spans_steps = (spans_begin, spans_take, spans_pass, spans_end)
+
+pub ruleset entries_steps = (entries_begin, entries_take, entries_pass, entries_end)

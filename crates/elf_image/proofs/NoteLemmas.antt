@@ -200,30 +200,22 @@ unfolding note_fault_between is_sound
 fault_goes_on bytes left place end trust functions h test = rw (lt-leb end place h, test) refl
 
 -- what a sound note is
-pub record IsSound (bytes : List ℕ) (place end : ℕ) (trust : Bool) : Type 0 where
+pub record IsSound (bytes : List ℕ) (place end : ℕ) : Type 0 where
   pub header : place + 12 ≤ end
   pub whole : note_end bytes place ≤ end
   pub shaped : is_note_shaped bytes (note_at bytes place) ≡ true
-  pub first : (trust && is_trust (note_at bytes place)) ≡ false
-
-not_not : (b : Bool) → not b ≡ true → b ≡ false
-not_not true h = cc
-not_not false h = refl
 
 pub sound_view : (bytes : List ℕ) (place end : ℕ) (trust functions : Bool)
-    → is_sound bytes place end trust functions ≡ true → IsSound bytes place end trust
+    → is_sound bytes place end trust functions ≡ true → IsSound bytes place end
 unfolding is_sound
 sound_view bytes place end trust functions h =
     let p = and_parts _ _ h in
     let q = and_parts _ _ p.1 in
     let r = and_parts _ _ q.1 in
-    let s = and_parts _ _ r.1 in
     record {
       header = leb-true _ _ p.0;
       whole = leb-true _ _ q.0;
       shaped = r.0;
-      first = not_not _
-          s.0;
     }
 
 notes_go_on : (bytes : List ℕ) (left place end : ℕ) → place + 12 ≤ end → note_end bytes place ≤ end

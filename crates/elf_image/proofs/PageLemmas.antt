@@ -101,3 +101,9 @@ unfolding are_held all_pages
 are_held_ends purpose ss page end past =
     let count : end - page ≡ 0 = omega arith in
     rw count refl
+
+-- ---- by function, for the goals of its loop
+
+pub ruleset held_steps = (held_begins, held_stops, held_goes_on, held_ends, held_near)
+
+pub ruleset lying_steps = (lying_begins, are_held_stops, are_held_goes_on, are_held_ends)

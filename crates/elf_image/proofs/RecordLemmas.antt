@@ -237,3 +237,17 @@ pub in_text_ends : (a : ℕ) (bytes : List ℕ) (table : RecordTable) (index : �
     → is_in_text a (records_left bytes table index) ≡ false
 unfolding is_in_text
 in_text_ends a bytes table index h = rw (records_left-none bytes table index h) refl
+
+-- ---- by function, for the goals of its loop
+
+pub ruleset record_steps = (record_begins, record_stops, record_goes_on, record_ends)
+
+pub ruleset overlaps_steps = (overlaps_none, overlaps_more)
+
+pub ruleset text_steps = (text_begins, text_stops, text_goes_on, text_ends)
+
+pub ruleset data_steps = (data_begins, data_stops, data_goes_on, data_ends)
+
+pub ruleset entry_steps = (entry_begins, entry_stops, entry_goes_on, entry_ends)
+
+pub ruleset in_text_steps = (in_text_begins, in_text_stops, in_text_goes_on, in_text_ends)

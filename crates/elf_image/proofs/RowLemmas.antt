@@ -209,3 +209,11 @@ unfolding later_fault
 later_parts bytes h =
     let p = or_none (header_fault bytes) _ h in
     (p.0, (or_none (segment_fault bytes) _ p.1).0)
+
+-- ---- by function, for the goals of its rows
+
+pub ruleset first_steps = (first_head, first_later, head_long)
+
+pub ruleset later_steps = (later_header, later_segment, later_trust, has_table, has_notes)
+
+pub ruleset trust_steps = (trust_version, trust_records, trust_notes)

@@ -11,7 +11,7 @@ use Rattle.erim_defs.specs.Inspection.Image.{is_dynamic, is_loadable, is_ranged,
 use Rattle.erim_defs.specs.Inspection.Image.{pages_of, range_fault, shared_fault, shares_page}
 use Rattle.erim_defs.specs.Inspection.Image.{static_fault, table_place}
 use Rattle.elf_image.specs.Table.{header_of, headers_left, seen_headers, seen_segments}
-use Rattle.erim_defs.proofs.PlaceLemmas.{total_more}
+use Rattle.erim_defs.proofs.PlaceLemmas.{ranged_few, total_more}
 
 -- a number of headers that isn't 0
 from_more : (bytes : List ℕ) (place n m : ℕ) → n ≡ suc m
@@ -168,3 +168,21 @@ shares_more s bytes n =
       | inl loads ↦ rw (more, loads) refl
       | inr not_loads ↦ rw (more, not_loads) refl
     ]
+
+-- ---- by function, for the goals of its loop
+
+pub ruleset static_steps = (static_begins, static_stops, static_goes_on, static_ends)
+
+pub ruleset range_steps = (
+  range_begins,
+  range_stops,
+  range_goes_on,
+  range_pages,
+  range_none,
+  ranged_few,
+  range_ends,
+)
+
+pub ruleset shared_steps = (shared_begins, shared_stops, shared_goes_on, shared_ends)
+
+pub ruleset shares_steps = (shares_none, shares_more)

@@ -1,38 +1,10 @@
-//! The fields of an image: little-endian numbers at a place (ELF-64, "Data representation").
+//! The fields of an image's file header (ELF-64, "File header").
 
-ghost use Rattle.std.specs.Prelude.{◌≡◌, ◌+◌, ◌≤◌, length};
-ghost use Rattle.erim_defs.specs.Inspection.Image.{entry_point, header_count, number_at};
-ghost use Rattle.erim_defs.specs.Inspection.Image.{table_place};
+ghost use Rattle.std.specs.Prelude.{◌≡◌, ◌≤◌, length};
+ghost use Rattle.erim_defs.specs.Inspection.Image.{entry_point, header_count, table_place};
 
-use byteorder::{ByteOrder, LittleEndian};
 use erim_defs::elf::{E_ENTRY, E_PHNUM, E_PHOFF};
-
-/// The number in the two bytes at a place.
-#[tactic(auto, unfolding(erim_defs::specs::Inspection::Image::number_at))]
-pub(crate) fn u16_at(bytes: &[u8], place: usize) -> u16
-    requires { place + 2 ≤ length bytes.now }
-    ensures { result ≡ number_at bytes.now place 2 }
-{
-    LittleEndian::read_u16(&bytes[place..])
-}
-
-/// The number in the four bytes at a place.
-#[tactic(auto, unfolding(erim_defs::specs::Inspection::Image::number_at))]
-pub(crate) fn u32_at(bytes: &[u8], place: usize) -> u32
-    requires { place + 4 ≤ length bytes.now }
-    ensures { result ≡ number_at bytes.now place 4 }
-{
-    LittleEndian::read_u32(&bytes[place..])
-}
-
-/// The number in the eight bytes at a place.
-#[tactic(auto, unfolding(erim_defs::specs::Inspection::Image::number_at))]
-pub(crate) fn u64_at(bytes: &[u8], place: usize) -> u64
-    requires { place + 8 ≤ length bytes.now }
-    ensures { result ≡ number_at bytes.now place 8 }
-{
-    LittleEndian::read_u64(&bytes[place..])
-}
+use erim_defs::field::{u16_at, u64_at};
 
 /// The address at which the program starts (e_entry).
 pub(crate) fn entry_point(bytes: &[u8]) -> u64

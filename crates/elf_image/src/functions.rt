@@ -7,8 +7,9 @@ ghost use Rattle.elf_image.specs.Functions.{function_of, is_within, table_functi
 ghost use Rattle.elf_image.specs.Notes.{HasFunctionsOf};
 ghost use Rattle.elf_image.specs.Table.{HasTable};
 
-use crate::field::{header_count, u64_at};
+use crate::field::header_count;
 use crate::header::Header;
+use erim_defs::field::u64_at;
 use erim_defs::note::{FUNCTION_LENGTH, FUNCTION_SIZE};
 use erim_defs::{ImageFault, Segment, Span};
 
@@ -35,7 +36,7 @@ pub(crate) fn read_function(bytes: &[u8], table: FunctionTable, index: u32) -> S
 
 /// The first function that has no bytes, isn't within the file part of one executable segment, or
 /// starts below the end of the one before it.
-#[tactic(auto, using(crate::proofs::FunctionLemmas::fault_begins, crate::proofs::FunctionLemmas::fault_stops_within, crate::proofs::FunctionLemmas::fault_stops_behind, crate::proofs::FunctionLemmas::fault_goes_on, crate::proofs::FunctionLemmas::fault_ends, crate::proofs::FunctionLemmas::last_none, crate::proofs::FunctionLemmas::last_next))]
+#[tactic(auto, using(crate::proofs::FunctionLemmas::fault_steps))]
 pub(crate) fn function_fault(bytes: &[u8], table: FunctionTable) -> Option<ImageFault>
     requires headers { HasTable bytes.now }
     requires functions { HasFunctionsOf bytes.now table }
@@ -69,7 +70,7 @@ fn follows(before: &Span, function: &Span) -> bool
 
 // A header whose segment has the function in its file part. Functions follow each other, so the
 // header that held the one before is asked first.
-#[tactic(auto, using(crate::proofs::FunctionLemmas::within_begins, crate::proofs::FunctionLemmas::within_stops, crate::proofs::FunctionLemmas::within_goes_on, crate::proofs::FunctionLemmas::within_ends, crate::proofs::FunctionLemmas::within_near))]
+#[tactic(auto, using(crate::proofs::FunctionLemmas::within_steps))]
 fn holder(bytes: &[u8], near: u32, function: &Span) -> Option<u32>
     requires { HasTable bytes.now }
     ensures { is_some result ≡ is_within function.now (segments bytes.now) }

@@ -6,12 +6,13 @@ ghost use Rattle.erim_defs.specs.Inspection.Image.{is_passed_over, is_ranged, pa
 ghost use Rattle.erim_defs.specs.Inspection.Image.{table_place};
 ghost use Rattle.elf_image.specs.Table.{HasTable, header_of};
 
-use crate::field::{table_place, u32_at, u64_at};
+use crate::field::table_place;
 use erim_defs::Segment;
 use erim_defs::elf::{
     P_ALIGN, P_FILESZ, P_FLAGS, P_MEMSZ, P_OFFSET, P_VADDR, PROGRAM_HEADER_SIZE, PT_DYNAMIC,
     PT_INTERP, PT_LOAD, PT_NOTE, PT_TLS, WIDE_NOTE_ALIGNMENT,
 };
+use erim_defs::field::{u32_at, u64_at};
 use erim_defs::limits::MOST_PAGES;
 use std::marker::Model;
 

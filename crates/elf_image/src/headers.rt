@@ -23,7 +23,7 @@ pub(crate) fn segment_fault(bytes: &[u8]) -> Option<ImageFault>
 }
 
 // The first header that asks for what a static program has not.
-#[tactic(auto, using(crate::proofs::TableLemmas::static_begins, crate::proofs::TableLemmas::static_stops, crate::proofs::TableLemmas::static_goes_on, crate::proofs::TableLemmas::static_ends))]
+#[tactic(auto, using(crate::proofs::TableLemmas::static_steps))]
 fn static_fault(bytes: &[u8]) -> Option<ImageFault>
     requires { HasTable bytes.now }
     ensures { result ≡ static_fault 0 [] (headers bytes.now) }
@@ -37,7 +37,7 @@ fn static_fault(bytes: &[u8]) -> Option<ImageFault>
 }
 
 // The first segment or note that lies where it may not.
-#[tactic(auto, using(crate::proofs::TableLemmas::range_begins, crate::proofs::TableLemmas::range_stops, crate::proofs::TableLemmas::range_goes_on, crate::proofs::TableLemmas::range_pages, crate::proofs::TableLemmas::range_none, erim_defs::proofs::PlaceLemmas::ranged_few, crate::proofs::TableLemmas::range_ends))]
+#[tactic(auto, using(crate::proofs::TableLemmas::range_steps))]
 fn range_fault(bytes: &[u8]) -> Option<ImageFault>
     requires { HasTable bytes.now }
     ensures { result ≡ range_fault (length bytes.now) 0 [] (headers bytes.now) }
@@ -54,7 +54,7 @@ fn range_fault(bytes: &[u8]) -> Option<ImageFault>
 }
 
 // The first segment that touches a page of an earlier one.
-#[tactic(auto, using(crate::proofs::TableLemmas::shared_begins, crate::proofs::TableLemmas::shared_stops, crate::proofs::TableLemmas::shared_goes_on, crate::proofs::TableLemmas::shared_ends))]
+#[tactic(auto, using(crate::proofs::TableLemmas::shared_steps))]
 fn shared_fault(bytes: &[u8]) -> Option<ImageFault>
     requires { HasTable bytes.now }
     ensures { result ≡ shared_fault 0 [] (headers bytes.now) }
@@ -69,7 +69,7 @@ fn shared_fault(bytes: &[u8]) -> Option<ImageFault>
 }
 
 // Does the segment share a page with one of the headers before an index?
-#[tactic(auto, using(crate::proofs::TableLemmas::shares_none, crate::proofs::TableLemmas::shares_more))]
+#[tactic(auto, using(crate::proofs::TableLemmas::shares_steps))]
 fn shares_earlier(bytes: &[u8], index: u32, segment: &Segment) -> bool
     requires table { HasTable bytes.now }
     requires index { index ≤ header_count bytes.now }

@@ -7,7 +7,7 @@ ghost use Rattle.elf_image.specs.Form.{Checks, ChecksLater, ChecksTrust};
 ghost use Rattle.elf_image.specs.Notes.{HasNotes};
 ghost use Rattle.elf_image.specs.Table.{HasTable};
 
-use crate::field::{entry_point, header_count, table_place, u16_at};
+use crate::field::{entry_point, header_count, table_place};
 use crate::functions::function_fault;
 use crate::headers::segment_fault;
 use crate::image::Image;
@@ -19,6 +19,7 @@ use erim_defs::elf::{
     E_MACHINE, E_PHENTSIZE, E_TYPE, EI_CLASS, EI_DATA, EI_VERSION, ELFCLASS64, ELFDATA2LSB,
     EM_X86_64, ET_EXEC, EV_CURRENT, FILE_HEADER_SIZE, PROGRAM_HEADER_SIZE,
 };
+use erim_defs::field::u16_at;
 use erim_defs::limits::MOST_HEADERS;
 use erim_defs::page::PAGE_SIZE;
 use std::alloc::Global;
@@ -37,7 +38,7 @@ pub fn read_image(alloc: Global, bytes: &[u8]) -> Result<Image, ImageFault>
 }
 
 // The first fault as an error. It stands before all that takes memory.
-#[tactic(auto, using(crate::proofs::RowLemmas::first_head, crate::proofs::RowLemmas::first_later, crate::proofs::RowLemmas::head_long))]
+#[tactic(auto, using(crate::proofs::RowLemmas::first_steps))]
 fn check(bytes: &[u8]) -> Result<NotesSeen, ImageFault>
     ensures { Checks bytes.now result }
 {
@@ -82,7 +83,7 @@ fn has_class(bytes: &[u8]) -> bool
 }
 
 // The rows behind the first, with the notes that they saw.
-#[tactic(auto, using(crate::proofs::RowLemmas::later_header, crate::proofs::RowLemmas::later_segment, crate::proofs::RowLemmas::later_trust, crate::proofs::RowLemmas::has_table, crate::proofs::RowLemmas::has_notes))]
+#[tactic(auto, using(crate::proofs::RowLemmas::later_steps))]
 fn check_later(bytes: &[u8]) -> Result<NotesSeen, ImageFault>
     requires { 64 ≤ length bytes.now }
     ensures { ChecksLater bytes.now result }
@@ -131,7 +132,7 @@ fn header_fault(bytes: &[u8]) -> Option<ImageFault>
 }
 
 // The rows of notes and records, with the notes that they saw.
-#[tactic(auto, using(crate::proofs::RowLemmas::trust_version, crate::proofs::RowLemmas::trust_records, crate::proofs::RowLemmas::trust_notes))]
+#[tactic(auto, using(crate::proofs::RowLemmas::trust_steps))]
 fn check_trust(bytes: &[u8]) -> Result<NotesSeen, ImageFault>
     requires table { HasTable bytes.now }
     requires notes { HasNotes bytes.now }

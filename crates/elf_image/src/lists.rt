@@ -17,7 +17,7 @@ use erim_defs::{Segment, Span};
 use std::alloc::{AllocError, Global};
 
 /// The loadable segments in table order.
-#[tactic(auto, using(crate::proofs::ListLemmas::segments_begin, crate::proofs::ListLemmas::segments_load, crate::proofs::ListLemmas::segments_pass, crate::proofs::ListLemmas::segments_end))]
+#[tactic(auto, using(crate::proofs::ListLemmas::segments_steps))]
 pub(crate) fn segments(alloc: Global, bytes: &[u8]) -> Result<Vec<Segment>, AllocError>
     requires { HasTable bytes.now }
     ensures { IfOk result (λ list. list.items ≡ segments bytes.now) }
@@ -33,7 +33,7 @@ pub(crate) fn segments(alloc: Global, bytes: &[u8]) -> Result<Vec<Segment>, Allo
 }
 
 /// The ranges of the records of a kind.
-#[tactic(auto, using(crate::proofs::ListLemmas::spans_begin, crate::proofs::ListLemmas::spans_take, crate::proofs::ListLemmas::spans_pass, crate::proofs::ListLemmas::spans_end))]
+#[tactic(auto, using(crate::proofs::ListLemmas::spans_steps))]
 pub(crate) fn spans(
     alloc: Global,
     bytes: &[u8],
@@ -54,7 +54,7 @@ pub(crate) fn spans(
 }
 
 /// The addresses of the entries.
-#[tactic(auto, using(crate::proofs::ListLemmas::entries_begin, crate::proofs::ListLemmas::entries_take, crate::proofs::ListLemmas::entries_pass, crate::proofs::ListLemmas::entries_end))]
+#[tactic(auto, using(crate::proofs::ListLemmas::entries_steps))]
 pub(crate) fn entries(
     alloc: Global,
     bytes: &[u8],
@@ -74,7 +74,7 @@ pub(crate) fn entries(
 }
 
 /// The functions of a table.
-#[tactic(auto, using(crate::proofs::FunctionLemmas::functions_begin, crate::proofs::FunctionLemmas::functions_take, crate::proofs::FunctionLemmas::functions_end))]
+#[tactic(auto, using(crate::proofs::FunctionLemmas::functions_steps))]
 pub(crate) fn functions(
     alloc: Global,
     bytes: &[u8],

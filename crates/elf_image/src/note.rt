@@ -7,10 +7,10 @@ ghost use Rattle.erim_defs.specs.Inspection.Image.{is_trust, is_versioned, item_
 ghost use Rattle.erim_defs.specs.Inspection.Image.{note_at, note_end, padded_size};
 ghost use Rattle.elf_image.specs.Notes.{HasDesc, HasNote, functions_of, table_of};
 
-use crate::field::u32_at;
 use crate::functions::FunctionTable;
 use crate::records::RecordTable;
 use erim_defs::elf::{N_DESCSZ, N_TYPE, NOTE_HEADER_SIZE};
+use erim_defs::field::u32_at;
 use erim_defs::limits::{MOST_FUNCTIONS, MOST_RECORDS};
 use erim_defs::note::{
     FUNCTION_SIZE, FUNCTIONS_NOTE, NOTE_COUNT, NOTE_ITEMS, NOTE_VERSION, RECORD_SIZE, TRUST_NOTE,

@@ -45,7 +45,7 @@ pub(crate) fn is_held(bytes: &[u8], purpose: Purpose, page: u64) -> bool
 
 // A header to whose segment the page belongs, and which serves the purpose. Pages of a range follow
 // each other, so the header that held the one before is asked first.
-#[tactic(auto, using(crate::proofs::PageLemmas::held_begins, crate::proofs::PageLemmas::held_stops, crate::proofs::PageLemmas::held_goes_on, crate::proofs::PageLemmas::held_ends, crate::proofs::PageLemmas::held_near))]
+#[tactic(auto, using(crate::proofs::PageLemmas::held_steps))]
 fn holder(bytes: &[u8], purpose: Purpose, page: u64, near: u32) -> Option<u32>
     requires { HasTable bytes.now }
     ensures { is_some result ≡ is_held purpose (segments bytes.now) page }
@@ -72,7 +72,7 @@ fn holds(header: &Header, purpose: Purpose, page: u64) -> bool
 
 /// Do all pages of the record's range belong to segments that serve the purpose? Its range may be
 /// huge, and the first page that doesn't settles the answer.
-#[tactic(auto, using(crate::proofs::PageLemmas::lying_begins, crate::proofs::PageLemmas::are_held_stops, crate::proofs::PageLemmas::are_held_goes_on, crate::proofs::PageLemmas::are_held_ends))]
+#[tactic(auto, using(crate::proofs::PageLemmas::lying_steps))]
 pub(crate) fn is_lying(bytes: &[u8], purpose: Purpose, item: &Record) -> bool
     requires { HasTable bytes.now }
     ensures { result ≡ is_lying purpose (segments bytes.now) item.now }

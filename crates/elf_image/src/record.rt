@@ -6,9 +6,9 @@ ghost use Rattle.erim_defs.specs.Inspection.Image.{is_text, overlaps, span_of};
 ghost use Rattle.elf_image.specs.Notes.{HasTableOf};
 ghost use Rattle.elf_image.specs.Records.{record_of};
 
-use crate::field::{u32_at, u64_at};
 use crate::records::RecordTable;
 use erim_defs::Span;
+use erim_defs::field::{u32_at, u64_at};
 use erim_defs::note::{
     RECORD_KEY, RECORD_LENGTH, RECORD_SIZE, RECORD_START, TRUSTED_DATA, TRUSTED_ENTRY,
     TRUSTED_HEAP, TRUSTED_TEXT,

@@ -36,7 +36,7 @@ pub(crate) fn records_fault(bytes: &[u8], table: RecordTable) -> Option<ImageFau
 }
 
 // The first record with a wrong kind, key, start or length, or that overlaps with an earlier one.
-#[tactic(auto, using(crate::proofs::RecordLemmas::record_begins, crate::proofs::RecordLemmas::record_stops, crate::proofs::RecordLemmas::record_goes_on, crate::proofs::RecordLemmas::record_ends))]
+#[tactic(auto, using(crate::proofs::RecordLemmas::record_steps))]
 fn record_fault(bytes: &[u8], table: RecordTable) -> Option<ImageFault>
     requires { HasTableOf bytes.now table }
     ensures { result ≡ record_fault 0 [] (table_records bytes.now table) }
@@ -66,7 +66,7 @@ fn is_record(bytes: &[u8], table: RecordTable, index: u32, item: &Record) -> boo
 }
 
 // Does it overlap with a range of the records before an index?
-#[tactic(auto, using(crate::proofs::RecordLemmas::overlaps_none, crate::proofs::RecordLemmas::overlaps_more))]
+#[tactic(auto, using(crate::proofs::RecordLemmas::overlaps_steps))]
 fn overlaps_earlier(bytes: &[u8], table: RecordTable, index: u32, item: &Record) -> bool
     requires table { HasTableOf bytes.now table }
     requires index { index ≤ table.count }
@@ -80,7 +80,7 @@ fn overlaps_earlier(bytes: &[u8], table: RecordTable, index: u32, item: &Record)
 }
 
 // The first trusted text outside of segments that are executable and not writable.
-#[tactic(auto, using(crate::proofs::RecordLemmas::text_begins, crate::proofs::RecordLemmas::text_stops, crate::proofs::RecordLemmas::text_goes_on, crate::proofs::RecordLemmas::text_ends))]
+#[tactic(auto, using(crate::proofs::RecordLemmas::text_steps))]
 fn text_fault(bytes: &[u8], table: RecordTable) -> Option<ImageFault>
     requires headers { HasTable bytes.now }
     requires records { HasTableOf bytes.now table }
@@ -96,7 +96,7 @@ fn text_fault(bytes: &[u8], table: RecordTable) -> Option<ImageFault>
 }
 
 // The first trusted data or heap outside of segments that may hold it.
-#[tactic(auto, using(crate::proofs::RecordLemmas::data_begins, crate::proofs::RecordLemmas::data_stops, crate::proofs::RecordLemmas::data_goes_on, crate::proofs::RecordLemmas::data_ends))]
+#[tactic(auto, using(crate::proofs::RecordLemmas::data_steps))]
 fn data_fault(bytes: &[u8], table: RecordTable) -> Option<ImageFault>
     requires headers { HasTable bytes.now }
     requires records { HasTableOf bytes.now table }
@@ -124,7 +124,7 @@ fn is_placed_data(bytes: &[u8], item: &Record) -> bool
 }
 
 // The first entry outside of trusted text.
-#[tactic(auto, using(crate::proofs::RecordLemmas::entry_begins, crate::proofs::RecordLemmas::entry_stops, crate::proofs::RecordLemmas::entry_goes_on, crate::proofs::RecordLemmas::entry_ends))]
+#[tactic(auto, using(crate::proofs::RecordLemmas::entry_steps))]
 fn entry_fault(bytes: &[u8], table: RecordTable) -> Option<ImageFault>
     requires { HasTableOf bytes.now table }
     ensures { result ≡ entry_fault 0 (table_records bytes.now table) []
@@ -140,7 +140,7 @@ fn entry_fault(bytes: &[u8], table: RecordTable) -> Option<ImageFault>
 }
 
 // Does the address lie in trusted text of the table?
-#[tactic(auto, using(crate::proofs::RecordLemmas::in_text_begins, crate::proofs::RecordLemmas::in_text_stops, crate::proofs::RecordLemmas::in_text_goes_on, crate::proofs::RecordLemmas::in_text_ends))]
+#[tactic(auto, using(crate::proofs::RecordLemmas::in_text_steps))]
 fn is_in_text(bytes: &[u8], table: RecordTable, address: u64) -> bool
     requires { HasTableOf bytes.now table }
     ensures { result ≡ is_in_text address (table_records bytes.now table) }

@@ -2,10 +2,12 @@
 //! emulated machine.
 //!
 //! `main` gives the program's words, the system's files and standard output to
-//! `erim_commands::erim_plain`, which does all that the program does.
+//! `erim_commands::erim_plain`, which does all that the program does. Where the words mean no
+//! command, it also writes a usage to standard error.
 #![tactic(auto)]
 
-use erim_commands::{OUT_OF_MEMORY, erim_plain};
+use command_words::USAGE;
+use erim_commands::{NOT_UNDERSTOOD, OUT_OF_MEMORY, erim_plain};
 use erim_defs::NoMemory;
 use erim_io::{FileStore, OutSink};
 use std::env;
@@ -27,5 +29,10 @@ fn main(rt: HostRuntime) -> ExitCode {
     };
     let mut store = FileStore::new(rt.alloc(), &rt);
     let mut out = OutSink::new(&rt);
-    ExitCode::from(erim_plain(rt.alloc(), words.as_slice(), &mut store, &mut out))
+    let status = erim_plain(rt.alloc(), words.as_slice(), &mut store, &mut out);
+    if status == NOT_UNDERSTOOD {
+        // The answer is told already, so a usage that can't be written is no failure.
+        let _ = eprint!(rt; "{USAGE}");
+    }
+    ExitCode::from(status)
 }

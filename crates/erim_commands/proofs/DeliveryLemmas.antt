@@ -1,6 +1,6 @@
 -- How a reply's delivery ends, and how a plan is carried out, from how the parts of a call ended.
-use Rattle.std.proofs.Common.{◌≡◌, ◌∙◌, ℕ, ◌<◌, ◌≤◌, List, ◌++◌, ◌∷◌, [], length, replicate, Option}
-use Rattle.std.proofs.Common.{Some, None, Result, Ok, Err, refl, sym, ap, subst, arith, inl, inr}
+use Rattle.std.proofs.Common.{◌≡◌, ◌∙◌, ℕ, ◌<◌, ◌≤◌, List, ◌⊎◌, ◌++◌, ◌∷◌, [], length, replicate}
+use Rattle.std.proofs.Common.{Option, Some, None, Result, Ok, Err, refl, sym, ap, subst, arith, inl, inr}
 use Rattle.std.specs.Prelude.{codes, IsSomeAnd, IfOk, IfSome, ◌≢◌}
 use Rattle.std.specs.Io.KnownBytes.{Keeps}
 use Rattle.std.proofs.Math.ListN.{length-replicate}
@@ -9,16 +9,21 @@ use Rattle.erim_io.specs.declared.store.SaveFault.TheVariants.{Failed, Memory}
 use Rattle.std.specs.Option.{option_map}
 use Rattle.erim_defs.specs.declared.fault.ImageFault.{ImageFault}
 use Rattle.erim_defs.specs.declared.fault.ImageFault.TheVariants.{Memory as NoRoom}
+use Rattle.erim_defs.specs.declared.journal.JournalFault.{JournalFault}
+use Rattle.erim_defs.specs.declared.journal.JournalFault.TheVariants.{Memory as NoJournalRoom}
 use Rattle.erim_defs.specs.declared.memory.NoMemory.{NoMemory}
-use Rattle.erim_defs.specs.Machine.State.{Setup}
-use Rattle.erim_defs.specs.Output.Texts.{error_line, fault_text}
+use Rattle.erim_defs.specs.declared.machine.Entry.{Entry}
+use Rattle.erim_defs.specs.Machine.State.{Setup, State}
+use Rattle.erim_defs.specs.Output.Journal.{journal_fault}
+use Rattle.erim_defs.specs.Output.Texts.{error_line, fault_text, journal_fault_text}
 use Rattle.erim_commands.specs.declared.reply.Reply.{Reply as Made}
-use Rattle.erim_commands.specs.declared.reply.Status.TheVariants.{ImageRefused}
+use Rattle.erim_commands.specs.declared.reply.Status.{Status}
+use Rattle.erim_commands.specs.declared.reply.Status.TheVariants.{ImageRefused, JournalRefused}
 use Rattle.erim_commands.specs.Statuses.{code_of}
-use Rattle.erim_commands.specs.Replies.{Saved, Reply, Answer, One, Ran, IsAnswer, IsRunReply, told}
-use Rattle.erim_commands.specs.Replies.{image_fault, start_refusal}
+use Rattle.erim_commands.specs.Replies.{Saved, Reply, Answer, One, Ran, Replayed, IsAnswer}
+use Rattle.erim_commands.specs.Replies.{IsRunReply, IsReplayReply, told, journal_refusal}
 use Rattle.erim_commands.specs.Plans.{Plan, Ask, Tell, unless}
-use Rattle.erim_commands.specs.Commands.{image_limit, image_refused, with_image, with_start}
+use Rattle.erim_commands.specs.Commands.{Format, refused, with_file}
 use Rattle.erim_commands.specs.Delivery.{World, KeepsStore, IsUntouched, HasNotLoaded, HasNotKept}
 use Rattle.erim_commands.specs.Delivery.{HoldsMore, Delivers, Carries}
 use Rattle.erim_commands.specs.CallParts.{reply_of, Puts, SavesHeld, noted_file, Loads, EndsAs}
@@ -143,36 +148,37 @@ pub carries_line : (reply : Reply) (old new : World) (status : ℕ) → KeepsSto
 carries_line reply old new status store put =
     inl (reply, refl, delivers_put reply old new status store put)
 
--- ---- the step of a plan that loads and reads an image
+-- ---- the step of a plan that loads and reads a file
 
-abbrev fault_of : ImageFault → Result (List ℕ) ImageFault
-fault_of fault = Err fault
-
-abbrev pub too_large : Reply
-too_large = told ImageRefused (codes "image too large")
+abbrev pub too_large : {X : Type 0} → Format X → Reply
+too_large format = told format.status format.too_large
 
 -- a load that ended the call
-pub image_unloaded : (Z : Type 0) (name : Name) (next : List ℕ
-    → Plan Answer) (old new : World) (status : ℕ)
-    → Loads {Z = Z} name image_limit too_large old new (Err status)
-    → Carries IsAnswer (with_image name next) old new status
-image_unloaded Z name next old new status (inl long) = inr (inl (long.0, (too_large, refl, long.1)))
-image_unloaded Z name next old new status (inr (inl lost)) = inr (inr (inl lost))
-image_unloaded Z name next old new status (inr (inr nothing)) = inr (inr (inr nothing))
+pub file_unloaded : {X : Type 0} (Z : Type 0) (format : Format X) (name : Name)
+    (next : X → Plan Answer) (old new : World) (status : ℕ)
+    → Loads {Z = Z} name format.limit (too_large format) old new (Err status)
+    → Carries IsAnswer (with_file format name next) old new status
+file_unloaded Z format name next old new status (inl long) =
+    inr (inl (long.0, (too_large format, refl, long.1)))
+file_unloaded Z format name next old new status (inr (inl lost)) = inr (inr (inl lost))
+file_unloaded Z format name next old new status (inr (inr nothing)) = inr (inr (inr nothing))
 
 -- it was loaded and has no fault
-pub image_passes : (name : Name) (bytes image : List ℕ) (old new : World) → new ≡ old
-    → Holds old.held name (Some bytes) → length bytes ≤ image_limit
-    → image_fault bytes ≡ None → image ≡ bytes → Passes (with_image name) old new (Ok image)
-image_passes name bytes image old new same holds within fine is =
-    let P : List ℕ → Type 0 = λ i. Passes (with_image name) old new (Ok i) in
+pub file_passes : {X : Type 0} (format : Format X) (name : Name) (bytes : List ℕ) (x : X)
+    (old new : World) → new ≡ old
+    → Holds old.held name (Some bytes) → length bytes ≤ format.limit
+    → format.fault bytes ≡ None → x ≡ format.value bytes
+    → Passes (with_file format name) old new (Ok x)
+file_passes {X} format name bytes x old new same holds within fine is =
+    let P : X → Type 0 = λ i. Passes (with_file format name) old new (Ok i) in
     subst P (sym is) (same, go)
   where
-    go : (next : List ℕ → Plan Answer) (later : World) (status : ℕ)
-        → Carries IsAnswer (next bytes) old later status
-        → Carries IsAnswer (with_image name next) old later status
+    go : (next : X → Plan Answer) (later : World) (status : ℕ)
+        → Carries IsAnswer (next (format.value bytes)) old later status
+        → Carries IsAnswer (with_file format name next) old later status
     go next later status rest =
-        (let here : Carries IsAnswer (unless (image_fault bytes) image_refused (next bytes)) old
+        (let here : Carries IsAnswer
+        (unless (format.fault bytes) (refused format.status) (next (format.value bytes))) old
         later status = rw fine rest in
         inl (bytes, holds, within, here))
 
@@ -182,7 +188,50 @@ pub made_one : (reply : Reply) (r : Result Made NoMemory) → IfOk r (λ m. repl
 made_one reply (Ok m) is = is
 made_one reply (Err e) is = tt
 
--- what reading says: the bytes have no fault
+-- a cause for which the plan ends, which a reply says
+pub refused_made : (status : Status) (cause : Option (List ℕ)) (text : List ℕ) (next : Plan Answer)
+    (r : Result Made NoMemory) → cause ≡ Some text → IfOk r (λ m. reply_of m ≡ told status text)
+    → IsMadeFor (unless cause (refused status) next) r
+refused_made status cause text next r bad made = rw bad (made_one (told status text) r made)
+
+-- no cause
+pub passes_made : (status : Status) (cause : Option (List ℕ)) (next : Plan Answer)
+    (r : Result Made NoMemory) → cause ≡ None → IsMadeFor next r
+    → IsMadeFor (unless cause (refused status) next) r
+passes_made status cause next r fine made = rw fine made
+
+-- it was loaded and has a fault, which was told
+pub file_faulty : {X : Type 0} (format : Format X) (name : Name) (bytes slice : List ℕ)
+    (old mid new : World) (reply : Result Made NoMemory) (status : ℕ) → mid ≡ old
+    → Holds old.held name (Some bytes) → length bytes ≤ format.limit → slice ≡ bytes
+    → ((next : Plan Answer)
+    → IsMadeFor (unless (format.fault slice) (refused format.status) next) reply)
+    → ((plan : Plan Answer) → IsMadeFor plan reply → Carries IsAnswer plan mid new status)
+    → (next : X → Plan Answer) → Carries IsAnswer (with_file format name next) old new status
+file_faulty format name bytes slice old mid new reply status same holds within is made concluded
+    next =
+    let rest : List ℕ → Plan Answer =
+    λ bs. unless (format.fault bs) (refused format.status) (next (format.value bytes)) in
+    let told_so : Carries IsAnswer (rest slice) old new status =
+    carries_from (rest slice) mid old new status same
+    (concluded (rest slice) (made (next (format.value bytes)))) in
+    let P : List ℕ → Type 0 = λ bs. Carries IsAnswer (rest bs) old new status in
+    inl (bytes, holds, within, subst P is told_so)
+
+-- what followed a file that was read
+pub file_next : {X : Type 0} (format : Format X) (name : Name) (next : X → Plan Answer) (x : X)
+    (old mid new : World) (status : ℕ) → Passes (with_file format name) old mid (Ok x)
+    → Carries IsAnswer (next x) mid new status
+    → Carries IsAnswer (with_file format name next) old new status
+file_next format name next x old mid new status passes carries =
+    passes.1 next new status (carries_from (next x) mid old new status passes.0 carries)
+
+-- ---- what reading an image says
+
+abbrev fault_of : ImageFault → Result (List ℕ) ImageFault
+fault_of fault = Err fault
+
+-- the bytes have no fault
 pub read_accepted : (bytes image : List ℕ) (first : Option ImageFault)
     → IfSome first (λ fault. Ok image ≡ Err fault) → (first ≡ None → image ≡ bytes)
     → (option_map fault_text first ≡ None) × (image ≡ bytes)
@@ -194,53 +243,45 @@ pub read_faulty : (fault : ImageFault) (first : Option ImageFault) (next : Plan 
     (r : Result Made NoMemory) → IfSome first (λ f. fault_of fault ≡ Err f)
     → (first ≡ None → fault ≡ NoRoom)
     → IfOk r (λ m. (fault ≢ NoRoom) × (reply_of m ≡ told ImageRefused (fault_text fault)))
-    → IsMadeFor (unless (option_map fault_text first) image_refused next) r
+    → IsMadeFor (unless (option_map fault_text first) (refused ImageRefused) next) r
 read_faulty fault first next (Err e) faulty accepted made = tt
 read_faulty fault None next (Ok m) faulty accepted made = absurd (made.0 (accepted refl))
 read_faulty fault (Some f) next (Ok m) faulty accepted made =
     let same : f ≡ fault = cc in
     made.1 ∙ ap (λ x. told ImageRefused (fault_text x)) (sym same)
 
--- it was loaded and has a fault, which was told
-pub image_faulty : (name : Name) (bytes slice : List ℕ) (old mid new : World)
-    (reply : Result Made NoMemory) (status : ℕ) → mid ≡ old → Holds old.held name (Some bytes)
-    → length bytes ≤ image_limit → slice ≡ bytes
-    → ((next : Plan Answer) → IsMadeFor (unless (image_fault slice) image_refused next) reply)
-    → ((plan : Plan Answer) → IsMadeFor plan reply → Carries IsAnswer plan mid new status)
-    → (next : List ℕ → Plan Answer) → Carries IsAnswer (with_image name next) old new status
-image_faulty name bytes slice old mid new reply status same holds within is made concluded next =
-    let rest : List ℕ → Plan Answer = λ bs. unless (image_fault bs) image_refused (next bytes) in
-    let told_so : Carries IsAnswer (rest slice) old new status =
-    carries_from (rest slice) mid old new status same
-    (concluded (rest slice) (made (next bytes))) in
-    let P : List ℕ → Type 0 = λ bs. Carries IsAnswer (rest bs) old new status in
-    inl (bytes, holds, within, subst P is told_so)
+-- ---- what reading a journal says
 
--- what followed an image that was read
-pub image_next : (name : Name) (next : List ℕ
-    → Plan Answer) (bytes : List ℕ) (old mid new : World) (status : ℕ) → Passes (with_image
-    name) old mid (Ok bytes)
-    → Carries IsAnswer (next bytes) mid new status
-    → Carries IsAnswer (with_image name next) old new status
-image_next name next bytes old mid new status passes carries =
-    passes.1 next new status (carries_from (next bytes) mid old new status passes.0 carries)
+-- the bytes have no fault
+pub journal_accepted : (bytes : List ℕ) → journal_fault bytes ≡ None
+    → journal_refusal bytes ≡ None
+journal_accepted bytes none = ap (option_map journal_fault_text) none
 
--- ---- the step of a plan that starts an image
+-- or they have this one, which a reply says
+pub journal_faulty : (fault : JournalFault) (first : Option JournalFault) (next : Plan Answer)
+    (r : Result Made NoMemory) → (fault ≡ NoJournalRoom) ⊎ (first ≡ Some fault)
+    → IfOk r (λ m. (fault ≢ NoJournalRoom)
+    × (reply_of m ≡ told JournalRefused (journal_fault_text fault)))
+    → IsMadeFor (unless (option_map journal_fault_text first) (refused JournalRefused) next) r
+journal_faulty fault first next (Err e) is made = tt
+journal_faulty fault first next (Ok m) (inl memory) made = absurd (made.0 memory)
+journal_faulty fault first next (Ok m) (inr found) made = rw found made.1
 
--- it can't start, which a reply says
-pub start_refused : (setup : Setup) (next : Plan Answer) (text : List ℕ) (r : Result Made NoMemory)
-    → start_refusal setup ≡ Some text
-    → IfOk r (λ m. reply_of m ≡ told ImageRefused text) → IsMadeFor (with_start setup next) r
-start_refused setup next text r bad made = rw bad (made_one (told ImageRefused text) r made)
-
--- it can start
-pub start_passes : (setup : Setup) (next : Plan Answer) (r : Result Made NoMemory)
-    → start_refusal setup ≡ None → IsMadeFor next r → IsMadeFor (with_start setup next) r
-start_passes setup next r fine made = rw fine made
+-- ---- the replies of runs
 
 -- a run's reply that was made for the setup
-pub ran_made : (journal : Name) (given setup : Setup) (r : Result Made NoMemory) → given ≡ setup
-    → IfOk r (λ m. IsRunReply journal given (reply_of m)) → IsMadeFor (Tell (Ran journal setup)) r
-ran_made journal given setup (Ok m) same is = let P : Setup
-    → Type 0 = λ s. IsRunReply journal s (reply_of m) in subst P same is
-ran_made journal given setup (Err e) same is = tt
+pub ran_made : (told_of : List Entry → State → List ℕ) (journal : Name) (given setup : Setup)
+    (r : Result Made NoMemory) → given ≡ setup
+    → IfOk r (λ m. IsRunReply told_of journal given (reply_of m))
+    → IsMadeFor (Tell (Ran told_of journal setup)) r
+ran_made told_of journal given setup (Ok m) same is =
+    let P : Setup → Type 0 = λ s. IsRunReply told_of journal s (reply_of m) in subst P same is
+ran_made told_of journal given setup (Err e) same is = tt
+
+-- and that of a replay
+pub replayed_made : (given setup : Setup) (entries : List Entry) (r : Result Made NoMemory)
+    → given ≡ setup → IfOk r (λ m. IsReplayReply given entries (reply_of m))
+    → IsMadeFor (Tell (Replayed setup entries)) r
+replayed_made given setup entries (Ok m) same is =
+    let P : Setup → Type 0 = λ s. IsReplayReply s entries (reply_of m) in subst P same is
+replayed_made given setup entries (Err e) same is = tt

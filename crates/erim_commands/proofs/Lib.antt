@@ -1,8 +1,7 @@
 pub mod DeliveryLemmas
 pub mod DisasmLemmas
-pub mod InspectLemmas
+pub mod EndLemmas
 pub mod PlanLemmas
 pub mod PromiseLemmas
-pub mod ResultLemmas
-pub mod TextLemmas
+pub mod ReplayLemmas
 pub mod ReportLemmas

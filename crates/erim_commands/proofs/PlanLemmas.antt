@@ -5,7 +5,7 @@ use Rattle.std.specs.Prelude.{◌⊎◌}
 use Rattle.erim_io.specs.Store.{Name, Files, Holds}
 use Rattle.erim_commands.specs.declared.reply.Status.{Status}
 use Rattle.erim_commands.specs.declared.reply.Status.TheVariants.{Done, AtFault, NotUnderstood}
-use Rattle.erim_commands.specs.declared.reply.Status.TheVariants.{ImageRefused, Spent}
+use Rattle.erim_commands.specs.declared.reply.Status.TheVariants.{ImageRefused, JournalRefused, Spent}
 use Rattle.erim_commands.specs.Statuses.{code_of}
 use Rattle.erim_commands.specs.Replies.{Reply}
 use Rattle.erim_commands.specs.Plans.{Plan, Ask, Tell, end_of}
@@ -21,6 +21,7 @@ code_not_4 Done e = omega (arith, e)
 code_not_4 AtFault e = omega (arith, e)
 code_not_4 NotUnderstood e = omega (arith, e)
 code_not_4 ImageRefused e = omega (arith, e)
+code_not_4 JournalRefused e = omega (arith, e)
 code_not_4 Spent e = omega (arith, e)
 
 pub code_not_5 : (s : Status) → code_of s ≢ 5
@@ -28,6 +29,7 @@ code_not_5 Done e = omega (arith, e)
 code_not_5 AtFault e = omega (arith, e)
 code_not_5 NotUnderstood e = omega (arith, e)
 code_not_5 ImageRefused e = omega (arith, e)
+code_not_5 JournalRefused e = omega (arith, e)
 code_not_5 Spent e = omega (arith, e)
 
 module _ {A : Type 0} (IsAnswer : A → Reply → Type 0) where

@@ -1,7 +1,7 @@
 -- What the end of a call tells, command by command.
 use Rattle.std.proofs.Common.{◌≡◌, ◌≢◌, ◌⊎◌, ◌∙◌, List, ◌∷◌, ◌++◌, [], length, ℕ, Option, Some}
-use Rattle.std.proofs.Common.{None, Bool, true, false, eqb, sym, ap, subst, refl, arith, inl, inr}
-use Rattle.std.specs.Prelude.{IsSome, nat_lt, codes, ⊤}
+use Rattle.std.proofs.Common.{None, eqb, sym, ap, refl, arith, inl, inr}
+use Rattle.std.specs.Prelude.{codes, ⊤, ◌↔◌}
 use Rattle.std.proofs.lemmas.Bool.{cases_Bool, eqb-true, eqb-false}
 use Rattle.std.proofs.lemmas.List.{length-append}
 use Rattle.erim_io.specs.Store.{Name, Files}
@@ -9,24 +9,40 @@ use Rattle.erim_io.specs.Sink.{HasRisen}
 use Rattle.erim_defs.specs.declared.found.Found.{Found}
 use Rattle.erim_defs.specs.declared.machine.End.{End}
 use Rattle.erim_defs.specs.declared.machine.End.TheVariants.{Exit, Fault, Refused}
-use Rattle.erim_defs.specs.Machine.State.{Setup}
-use Rattle.erim_defs.specs.Output.Words.{Command, Inspect, Disasm, Run}
+use Rattle.erim_defs.specs.declared.machine.Entry.{Entry}
+use Rattle.erim_defs.specs.Inspection.Unsafe.{image_list}
+use Rattle.erim_defs.specs.Machine.State.{Setup, State}
+use Rattle.erim_defs.specs.Output.Journal.{JournalValue, journal_of}
+use Rattle.erim_defs.specs.Output.MadeTexts.{soak_line}
+use Rattle.erim_defs.specs.Output.Report.{report}
+use Rattle.erim_defs.specs.Output.Words.{Command, Inspect, Disasm, Run, Replay, Gen, Soak}
+use Rattle.thread_runner.specs.declared.replays.ReplayFault.{ReplayFault}
+use Rattle.thread_runner.specs.declared.replays.ReplayFault.TheVariants.{Start, PastEnd}
+use Rattle.thread_runner.specs.declared.replays.ReplayFault.TheVariants.{PastBudget, NotLive}
+use Rattle.thread_runner.specs.declared.replays.ReplayFault.TheVariants.{Unfinished}
+use Rattle.thread_runner.specs.Replays.{replay_fault}
+use Rattle.erim_commands.specs.declared.reply.Status.{Status}
 use Rattle.erim_commands.specs.declared.reply.Status.TheVariants.{NotUnderstood, ImageRefused}
+use Rattle.erim_commands.specs.declared.reply.Status.TheVariants.{JournalRefused}
 use Rattle.erim_commands.specs.Statuses.{code_of}
-use Rattle.erim_commands.specs.Replies.{Saved, Reply, Answer, One, Ran, IsAnswer, told, image_fault}
-use Rattle.erim_commands.specs.Replies.{start_refusal, image_list, list_status, listed_reply}
-use Rattle.erim_commands.specs.Replies.{disasm_reply, end_status, ran_reply}
-use Rattle.erim_commands.specs.Plans.{Plan, Tell, unless, on_file, end_of}
-use Rattle.erim_commands.specs.Commands.{image_limit, image_refused, with_image, with_start}
-use Rattle.erim_commands.specs.Commands.{run_setup}
-use Rattle.erim_commands.specs.Commands.{plan_of, plan_for}
+use Rattle.erim_commands.specs.Replies.{Saved, Reply, Answer, One, Ran, Replayed, IsAnswer, told}
+use Rattle.erim_commands.specs.Replies.{start_refusal, break_status, break_text, list_status}
+use Rattle.erim_commands.specs.Replies.{listed_reply}
+use Rattle.erim_commands.specs.Replies.{disasm_reply, gen_reply, end_status, ran_reply}
+use Rattle.erim_commands.specs.Replies.{replayed_reply}
+use Rattle.erim_commands.specs.Plans.{Plan, Tell, unless, end_of}
+use Rattle.erim_commands.specs.Commands.{Format, image_format, journal_format, refused, with_file}
+use Rattle.erim_commands.specs.Commands.{started_run, started_replay, run_setup, replay_setup}
+use Rattle.erim_commands.specs.Commands.{soak_setup, refused_break, plan_of, plan_for}
 use Rattle.erim_commands.specs.Delivery.{World, IsAnswered, HasNotKept, Carries}
 use Rattle.erim_commands.specs.Promises.{IsReplying, IsReplied, TellsWords, TellsRefusal}
-use Rattle.erim_commands.specs.Promises.{reading_refusal, image_refusal, IsAbout, Shows, ShowsRun}
-use Rattle.erim_commands.specs.Promises.{TellsWork, IsLoadedBy, IsSavedBy, GainsLoad, GainsSave}
-use Rattle.erim_commands.specs.Promises.{TellsFault, IsComplete}
+use Rattle.erim_commands.specs.Promises.{reading_refusal, refusal, IsAbout, IsRefusedAs, Shows}
+use Rattle.erim_commands.specs.Promises.{ShowsRun, ShowsReplay, TellsWork, IsLoadedBy, IsSavedBy}
+use Rattle.erim_commands.specs.Promises.{GainsLoad, GainsSave, TellsFault, IsComplete}
 use Rattle.erim_commands.proofs.PlanLemmas.{tells_end, Always, always_replied, Failure}
 use Rattle.erim_commands.proofs.PlanLemmas.{always_failed}
+use Rattle.erim_commands.proofs.EndLemmas.{IsRead, Stops, file_end, unless_end, some_is}
+use Rattle.erim_commands.proofs.ReplayLemmas.{replays_run, saved_spelling, seed_accepted, seed_starts}
 
 -- ---- what the replies of a command's ends are
 
@@ -51,37 +67,37 @@ known : (command : Command) (n : ℕ) → n ≢ 2 → (n ≡ 2 → Some command 
     → n ≡ 2)
 known command n other = (λ two. absurd (other two), λ none. absurd cc)
 
-refused_own : (command : Command) (text : List ℕ) → AnswersOwn (Some command) (image_refused text)
-refused_own command text reply is =
-    rw is (let own : IsOwn (Some command) (told ImageRefused text) = record {
-      understood = known
-          command 3 (omega arith);
-      save = tt;
+-- the status with which a file or a journal is refused
+abbrev Refuses : Status → Type 0
+Refuses status = (status ≡ ImageRefused) ⊎ (status ≡ JournalRefused)
+
+refuses_not_2 : (status : Status) → Refuses status → code_of status ≢ 2
+refuses_not_2 status (inl image) two =
+    (let three : code_of status ≡ 3 = rw image refl in omega (arith, two, three))
+refuses_not_2 status (inr journal) two =
+    (let six : code_of status ≡ 6 = rw journal refl in omega (arith, two, six))
+
+-- a reply of one answer
+one_reply : (a : Answer) (r reply : Reply) → a ≡ One r → IsAnswer a reply → reply ≡ r
+one_reply a r reply is answer = rw is at answer
+
+-- one reply that isn't that of words without meaning, and saves nothing else
+one_own : (command : Command) (r : Reply) → code_of r.status ≢ 2 → IsOwnSave (Some command) r.save
+    → AnswersOwn (Some command) (One r)
+one_own command r other save reply is =
+    rw is (let own : IsOwn (Some command) r = record {
+      understood = known command (code_of r.status) other;
+      save = save;
     } in own)
+
+refused_own : (command : Command) (status : Status) (text : List ℕ) → Refuses status
+    → AnswersOwn (Some command) (refused status text)
+refused_own command status text refuses =
+    one_own command (told status text) (refuses_not_2 status refuses) tt
 
 list_not_2 : (os : List Found) → code_of (list_status os) ≢ 2
 list_not_2 [] = omega arith
 list_not_2 (o ∷ os) = omega arith
-
-list_own : (command : Command) (bytes : List ℕ)
-    → AnswersOwn (Some command) (One (listed_reply (image_list bytes)))
-list_own command bytes reply is =
-    rw is (let own : IsOwn (Some command)
-    (listed_reply (image_list bytes)) =
-    record {
-      understood = known command (code_of (list_status (image_list bytes)))
-          (list_not_2 (image_list bytes));
-      save = tt;
-    } in own)
-
-disasm_own : (command : Command) (bytes : List ℕ)
-    → AnswersOwn (Some command) (One (disasm_reply bytes))
-disasm_own command bytes reply is =
-    rw is (let own : IsOwn (Some command) (disasm_reply bytes) = record {
-      understood = known command
-          0 (omega arith);
-      save = tt;
-    } in own)
 
 end_not_2 : (end : Option End) → code_of (end_status end) ≢ 2
 end_not_2 None = omega arith
@@ -89,14 +105,21 @@ end_not_2 (Some (Exit code)) = omega arith
 end_not_2 (Some (Fault thread rip cause addr)) = omega arith
 end_not_2 (Some (Refused page found thread)) = omega arith
 
-ran_own : (image journal : Name) (steps frames : ℕ) (setup : Setup)
-    → AnswersOwn (Some (Run image journal steps frames)) (Ran journal setup)
-ran_own image journal steps frames setup reply is =
-    let command = Run image journal steps frames in
+ran_own : (command : Command) (told_of : List Entry → State → List ℕ) (journal : Name)
+    (setup : Setup) → IsSavedBy (Some command) journal
+    → AnswersOwn (Some command) (Ran told_of journal setup)
+ran_own command told_of journal setup saves reply is =
     rw is.answer (record {
-      understood = known command (code_of (end_status is.last.end))
-          (end_not_2 is.last.end);
-      save = refl;
+      understood = known command (code_of (end_status is.last.end)) (end_not_2 is.last.end);
+      save = saves;
+    })
+
+replayed_own : (command : Command) (setup : Setup) (entries : List Entry)
+    → AnswersOwn (Some command) (Replayed setup entries)
+replayed_own command setup entries reply is =
+    rw is.answer (record {
+      understood = known command (code_of (end_status is.last.end)) (end_not_2 is.last.end);
+      save = tt;
     })
 
 -- ---- what a command's plan loads, and how it ends
@@ -104,20 +127,35 @@ ran_own image journal steps frames setup reply is =
 abbrev AreOwn : Option Command → Plan Answer → Type 0
 AreOwn words plan = Always IsAnswer (IsLoadedBy words) (AnswersOwn words) plan
 
-unless_own : (command : Command) (cause : Option (List ℕ)) (next : Plan Answer)
-    → AreOwn (Some command) next → AreOwn (Some command) (unless cause image_refused next)
-unless_own command None next own = own
-unless_own command (Some text) next own = refused_own command text
+unless_own : {B : Type 0} (command : Command) (cause : Option B) (ends : B → Answer)
+    (next : Plan Answer) → ((b : B) → AnswersOwn (Some command) (ends b))
+    → AreOwn (Some command) next → AreOwn (Some command) (unless cause ends next)
+unless_own command None ends next ended own = own
+unless_own command (Some b) ends next ended own = ended b
+
+file_own : {X : Type 0} (command : Command) (format : Format X) (name : Name)
+    (next : X → Plan Answer) → Refuses format.status → IsLoadedBy (Some command) name
+    → ((x : X) → AreOwn (Some command) (next x))
+    → AreOwn (Some command) (with_file format name next)
+file_own command format name next refuses loads own = (
+  loads,
+  refused_own command format.status format.too_large refuses,
+  λ bytes. unless_own command (format.fault bytes) (refused format.status)
+      (next (format.value bytes)) (λ text. refused_own command format.status text refuses)
+      (own (format.value bytes)),
+)
 
 image_own : (command : Command) (name : Name) (next : List ℕ → Plan Answer)
     → IsLoadedBy (Some command) name → ((bytes : List ℕ) → AreOwn (Some command) (next bytes))
-    → AreOwn (Some command) (with_image name next)
-image_own command name next loads own = (
-  loads,
-  refused_own command (codes "image too large"),
-  λ bytes. unless_own command
-      (image_fault bytes) (next bytes) (own bytes),
-)
+    → AreOwn (Some command) (with_file image_format name next)
+image_own command name next = file_own command image_format name next (inl refl)
+
+started_own : (command : Command) (setup : Setup) (next : Plan Answer)
+    → AreOwn (Some command) next
+    → AreOwn (Some command) (unless (start_refusal setup) (refused ImageRefused) next)
+started_own command setup next =
+    unless_own command (start_refusal setup) (refused ImageRefused) next
+    (λ text. refused_own command ImageRefused text (inl refl))
 
 not_understood_own : AnswersOwn None (One (told NotUnderstood (codes "words not understood")))
 not_understood_own reply is =
@@ -126,18 +164,45 @@ not_understood_own reply is =
       save = tt;
     } in own)
 
+break_refuses : (fault : ReplayFault) → Refuses (break_status fault)
+break_refuses (Start fault) = inl refl
+break_refuses (PastEnd index) = inr refl
+break_refuses (PastBudget index) = inr refl
+break_refuses (NotLive index) = inr refl
+break_refuses Unfinished = inr refl
+
+replay_own : (command : Command) (journal : Name) (bytes : List ℕ)
+    → IsLoadedBy (Some command) journal
+    → AreOwn (Some command) (with_file journal_format journal
+    (λ j. started_replay (replay_setup bytes j) j.entries))
+replay_own command journal bytes loads =
+    file_own command journal_format journal
+    (λ j. started_replay (replay_setup bytes j) j.entries) (inr refl) loads
+    (λ j. unless_own command (replay_fault (replay_setup bytes j) j.entries) refused_break
+    (Tell (Replayed (replay_setup bytes j) j.entries))
+    (λ fault. refused_own command (break_status fault) (break_text fault) (break_refuses fault))
+    (replayed_own command (replay_setup bytes j) j.entries))
+
 pub plan_own : (words : Option Command) → AreOwn words (plan_for words)
 plan_own None = not_understood_own
 plan_own (Some (Inspect image)) =
-    image_own (Inspect image) image _ refl (λ bytes. list_own (Inspect image) bytes)
+    let command = Inspect image in
+    image_own command image _ refl (λ bytes. one_own command (listed_reply (image_list bytes))
+    (list_not_2 (image_list bytes)) tt)
 plan_own (Some (Disasm image)) =
-    image_own (Disasm image) image _ refl (λ bytes. disasm_own (Disasm image) bytes)
-plan_own (Some (Run image journal steps frames)) =
-    let command = Run image journal steps frames in
+    let command = Disasm image in
+    image_own command image _ refl (λ bytes. one_own command (disasm_reply bytes) (omega arith) tt)
+plan_own (Some (Run image journal workers steps frames)) =
+    let command = Run image journal workers steps frames in
     image_own command image _ refl
-    (λ bytes. unless_own command (start_refusal (run_setup bytes steps frames))
-    (Tell (Ran journal (run_setup bytes steps frames)))
-    (ran_own image journal steps frames (run_setup bytes steps frames)))
+    (λ bytes. started_own command (run_setup bytes steps frames) _
+    (ran_own command report journal (run_setup bytes steps frames) refl))
+plan_own (Some (Replay image journal)) =
+    let command = Replay image journal in
+    image_own command image _ (inl refl) (λ bytes. replay_own command journal bytes (inr refl))
+plan_own (Some (Gen seed out)) = one_own (Gen seed out) (gen_reply seed out) (omega arith) refl
+plan_own (Some (Soak seed journal)) =
+    ran_own (Soak seed journal) (λ entries s. soak_line seed s) journal (soak_setup seed) refl
 
 pub tells_words : (words : Option Command) (old new : World) (status : ℕ)
     → Carries IsAnswer (plan_for words) old new status → TellsWords words status
@@ -166,137 +231,142 @@ tells_fault words old new status carries four =
         inr (inl (unkept reply.save (own reply is).save lost))
     by (inr (a, own, (reply, is, inr cut))) = inr (inr cut.puts)
 
--- ---- the end of a plan that loads an image
-
--- the image was refused, or it was read and the plan went on
-abbrev IsRead : Option (List ℕ) → (List ℕ → Plan Answer) → Files → Answer → Type 0
-IsRead found next files a =
-    ((bytes : List ℕ) × (text : List ℕ) × (found ≡ Some bytes) × (reading_refusal bytes ≡ Some text)
-    × (a ≡ image_refused text))
-    ⊎ ((bytes : List ℕ) × (found ≡ Some bytes) × (reading_refusal bytes ≡ None)
-    × (end_of (next bytes) files ≡ Some a))
-
-abbrev image_end : Option (List ℕ) → (List ℕ → Plan Answer) → Files → Option Answer
-image_end found next files =
-    on_file image_limit (image_refused (codes "image too large")) found
-    (λ bytes. end_of (unless (image_fault bytes) image_refused (next bytes)) files)
-
-some_is : {A : Type 0} (a b : A) → Some a ≡ Some b → b ≡ a
-some_is a b e = cc
-
-read_by : (bytes : List ℕ) (next : List ℕ
-    → Plan Answer) (files : Files) (a : Answer) (long : Bool) (fault :
-    Option (List ℕ)) → nat_lt image_limit (length bytes) ≡ long
-    → image_fault bytes ≡ fault → image_end (Some bytes) next files ≡ Some a
-    → IsRead (Some bytes) next files a
-unfolding end_of
-read_by bytes next files a true fault p q end =
-    let ends : Some (image_refused (codes "image too large")) ≡ Some a = rw p at end in
-    inl (bytes, codes "image too large", refl, rw p refl, some_is _ _ ends)
-read_by bytes next files a false (Some text) p q end =
-    let ends : Some (image_refused text) ≡ Some a = rw (p, q) at end in
-    inl (bytes, text, refl, rw p q, some_is _ _ ends)
-read_by bytes next files a false None p q end =
-    let ends : end_of (next bytes) files ≡ Some a = rw (p, q) at end in
-    inr (bytes, refl, rw p q, ends)
-
-read_end : (found : Option (List ℕ)) (next : List ℕ → Plan Answer) (files : Files) (a : Answer)
-    → image_end found next files ≡ Some a → IsRead found next files a
-read_end None next files a end = absurd cc
-read_end (Some bytes) next files a end =
-    read_by bytes next files a (nat_lt image_limit (length bytes)) (image_fault bytes) refl refl end
-
 -- ---- the ends of the commands' plans
 
--- the end where the image isn't refused
+-- the end where nothing is refused
 abbrev IsWorkEnd : Command → Files → Answer → Type 0
 IsWorkEnd (Inspect image) files a = (bytes : List ℕ) × (files image ≡ Some bytes)
     × (a ≡ One (listed_reply (image_list bytes)))
 IsWorkEnd (Disasm image) files a = (bytes : List ℕ) × (files image ≡ Some bytes)
     × (a ≡ One (disasm_reply bytes))
-IsWorkEnd (Run image journal steps frames) files a = (bytes : List ℕ) × (files image ≡ Some bytes)
-    × (a ≡ Ran journal (run_setup bytes steps frames))
+IsWorkEnd (Run image journal workers steps frames) files a =
+    (bytes : List ℕ) × (files image ≡ Some bytes)
+    × (reading_refusal image_format bytes ≡ None)
+    × (start_refusal (run_setup bytes steps frames) ≡ None)
+    × (a ≡ Ran report journal (run_setup bytes steps frames))
+IsWorkEnd (Replay image journal) files a =
+    (bytes saved : List ℕ) × (files image ≡ Some bytes) × (files journal ≡ Some saved)
+    × (reading_refusal journal_format saved ≡ None)
+    × (a ≡ Replayed (replay_setup bytes (journal_of saved)) (journal_of saved).entries)
+IsWorkEnd (Gen seed out) files a = a ≡ One (gen_reply seed out)
+IsWorkEnd (Soak seed journal) files a =
+    a ≡ Ran (λ entries s. soak_line seed s) journal (soak_setup seed)
 
--- the end by why the image is refused
-abbrev IsEnd : Command → Files → Answer → Option (List ℕ) → Type 0
-IsEnd command files a None = IsWorkEnd command files a
-IsEnd command files a (Some text) = a ≡ image_refused text
-
-end_as : (command : Command) (files : Files) (a : Answer) (refusal : Option (List ℕ))
-    → image_refusal command files ≡ refusal → IsEnd command files a refusal
-    → IsEnd command files a (image_refusal command files)
-end_as command files a refusal same is = let P : Option (List ℕ)
-    → Type 0 = IsEnd command files a in subst P (sym same) is
-
--- a run whose image was read
-run_end : (journal : Name) (setup : Setup) (files : Files) (a : Answer) (refusal : Option (List ℕ))
-    → start_refusal setup ≡ refusal
-    → end_of (with_start setup (Tell (Ran journal setup))) files ≡ Some a
-    → ((text : List ℕ) × (refusal ≡ Some text) × (a ≡ image_refused text))
-    ⊎ ((refusal ≡ None) × (a ≡ Ran journal setup))
-unfolding end_of
-run_end journal setup files a None same end =
-    let ends : Some (Ran journal setup) ≡ Some a = rw same at end in
-    inr (refl, some_is _ _ ends)
-run_end journal setup files a (Some text) same end =
-    let ends : Some (image_refused text) ≡ Some a = rw same at end in
-    inl (text, refl, some_is _ _ ends)
+-- a cause was told, or the command's work
+abbrev IsEnd : Command → Files → Answer → Type 0
+IsEnd command files a =
+    ((status : Status) × (text : List ℕ) × Refuses status
+    × (refusal command files ≡ Some (told status text)) × (a ≡ refused status text))
+    ⊎ ((refusal command files ≡ None) × IsWorkEnd command files a)
 
 plan_end : (command : Command) (files : Files) (a : Answer)
-    → end_of (plan_of command) files ≡ Some a → IsEnd command files a (image_refusal command files)
-unfolding end_of image_refusal
+    → end_of (plan_of command) files ≡ Some a → IsEnd command files a
+unfolding end_of refusal
 plan_end (Inspect image) files a end =
-    by (read_end (files image) (λ bytes. Tell (One (listed_reply (image_list bytes)))) files a end)
+    by (file_end image_format image (λ bytes. Tell (One (listed_reply (image_list bytes)))) files a
+    end)
   where
-    by : IsRead (files image) (λ bytes. Tell (One (listed_reply (image_list bytes)))) files a
-        → IsEnd (Inspect image) files a (image_refusal (Inspect image) files)
-    by (inl (bytes, text, there, bad, is)) =
-        end_as (Inspect image) files a (Some text) (rw there bad) is
-    by (inr (bytes, there, fine, ends)) =
-        end_as (Inspect image) files a None (rw there fine) (bytes, there, some_is _ _ ends)
+    by : IsRead image_format image (λ bytes. Tell (One (listed_reply (image_list bytes)))) files a
+        → IsEnd (Inspect image) files a
+    by (bytes, there, inl (text, bad, is)) =
+        inl (ImageRefused, text, inl refl, rw (there, bad) refl, is)
+    by (bytes, there, inr (fine, ends)) =
+        inr (rw (there, fine) refl, (bytes, there, some_is _ _ ends))
 plan_end (Disasm image) files a end =
-    by (read_end (files image) (λ bytes. Tell (One (disasm_reply bytes))) files a end)
+    by (file_end image_format image (λ bytes. Tell (One (disasm_reply bytes))) files a end)
   where
-    by : IsRead (files image) (λ bytes. Tell (One (disasm_reply bytes))) files a
-        → IsEnd (Disasm image) files a (image_refusal (Disasm image) files)
-    by (inl (bytes, text, there, bad, is)) =
-        end_as (Disasm image) files a (Some text) (rw there bad) is
-    by (inr (bytes, there, fine, ends)) =
-        end_as (Disasm image) files a None (rw there fine) (bytes, there, some_is _ _ ends)
-plan_end (Run image journal steps frames) files a end =
-    by (read_end (files image)
-    (λ bytes. with_start (run_setup bytes steps frames)
-    (Tell (Ran journal (run_setup bytes steps frames)))) files a end)
+    by : IsRead image_format image (λ bytes. Tell (One (disasm_reply bytes))) files a
+        → IsEnd (Disasm image) files a
+    by (bytes, there, inl (text, bad, is)) =
+        inl (ImageRefused, text, inl refl, rw (there, bad) refl, is)
+    by (bytes, there, inr (fine, ends)) =
+        inr (rw (there, fine) refl, (bytes, there, some_is _ _ ends))
+plan_end (Run image journal workers steps frames) files a end =
+    by (file_end image_format image next files a end)
   where
-    started : (bytes : List ℕ) → files image ≡ Some bytes → reading_refusal bytes ≡ None
-        → (((text : List ℕ) × (start_refusal (run_setup bytes steps frames) ≡ Some text)
-        × (a ≡ image_refused text)) ⊎ ((start_refusal (run_setup bytes steps frames) ≡ None)
-        × (a ≡ Ran journal (run_setup bytes steps frames))))
-        → IsEnd (Run image journal steps frames) files a
-        (image_refusal (Run image journal steps frames) files)
-    started bytes there fine (inl (text, bad, is)) =
-        end_as (Run image journal steps frames) files a (Some text) (rw (there, fine) bad) is
-    started bytes there fine (inr (can, is)) =
-        end_as (Run image journal steps frames) files a None (rw (there, fine) can)
-        (bytes, there, is)
+    next : List ℕ → Plan Answer
+    next bytes = started_run report journal (run_setup bytes steps frames)
 
-    by : IsRead (files image)
-        (λ bytes. with_start (run_setup bytes steps frames)
-        (Tell (Ran journal (run_setup bytes steps frames)))) files a
-        → IsEnd (Run image journal steps frames) files a
-        (image_refusal (Run image journal steps frames) files)
-    by (inl (bytes, text, there, bad, is)) =
-        end_as (Run image journal steps frames) files a (Some text) (rw (there, bad) refl) is
-    by (inr (bytes, there, fine, ends)) =
-        started bytes there fine (run_end journal (run_setup bytes steps frames) files a
-        (start_refusal (run_setup bytes steps frames)) refl ends)
+    started : (bytes : List ℕ) → files image ≡ Some bytes
+        → reading_refusal image_format bytes ≡ None
+        → Stops (start_refusal (run_setup bytes steps frames)) (refused ImageRefused)
+        (Tell (Ran report journal (run_setup bytes steps frames))) files a
+        → IsEnd (Run image journal workers steps frames) files a
+    started bytes there fine (inl (text, bad, is)) =
+        inl (ImageRefused, text, inl refl, rw (there, fine, bad) refl, is)
+    started bytes there fine (inr (can, ends)) =
+        inr (rw (there, fine, can) refl, (bytes, there, fine, can, some_is _ _ ends))
+
+    by : IsRead image_format image next files a
+        → IsEnd (Run image journal workers steps frames) files a
+    by (bytes, there, inl (text, bad, is)) =
+        inl (ImageRefused, text, inl refl, rw (there, bad) refl, is)
+    by (bytes, there, inr (fine, ends)) =
+        started bytes there fine
+        (unless_end (start_refusal (run_setup bytes steps frames)) (refused ImageRefused) _ files a
+        ends)
+plan_end (Replay image journal) files a end =
+    by (file_end image_format image next files a end)
+  where
+    then_ : List ℕ → JournalValue → Plan Answer
+    then_ bytes j = started_replay (replay_setup bytes j) j.entries
+
+    next : List ℕ → Plan Answer
+    next bytes = with_file journal_format journal (then_ bytes)
+
+    made : (bytes saved : List ℕ) → files image ≡ Some bytes
+        → reading_refusal image_format bytes ≡ None → files journal ≡ Some saved
+        → reading_refusal journal_format saved ≡ None
+        → Stops (replay_fault (replay_setup bytes (journal_of saved)) (journal_of saved).entries)
+        refused_break
+        (Tell (Replayed (replay_setup bytes (journal_of saved)) (journal_of saved).entries)) files a
+        → IsEnd (Replay image journal) files a
+    made bytes saved there fine here spelled (inl (fault, bad, is)) =
+        inl (
+          break_status fault,
+          break_text fault,
+          break_refuses fault,
+          rw (there, fine, here, spelled, bad) refl,
+          is,
+        )
+    made bytes saved there fine here spelled (inr (goes, ends)) =
+        inr (
+          rw (there, fine, here, spelled, goes) refl,
+          (
+            bytes,
+            saved,
+            there,
+            here,
+            spelled,
+            some_is _ _ ends,
+          ),
+        )
+
+    loaded : (bytes : List ℕ) → files image ≡ Some bytes
+        → reading_refusal image_format bytes ≡ None
+        → IsRead journal_format journal (then_ bytes) files a
+        → IsEnd (Replay image journal) files a
+    loaded bytes there fine (saved, here, inl (text, bad, is)) =
+        inl (JournalRefused, text, inr refl, rw (there, fine, here, bad) refl, is)
+    loaded bytes there fine (saved, here, inr (spelled, ends)) =
+        made bytes saved there fine here spelled
+        (unless_end (replay_fault (replay_setup bytes (journal_of saved)) (journal_of saved).entries)
+        refused_break _ files a ends)
+
+    by : IsRead image_format image next files a → IsEnd (Replay image journal) files a
+    by (bytes, there, inl (text, bad, is)) =
+        inl (ImageRefused, text, inl refl, rw (there, bad) refl, is)
+    by (bytes, there, inr (fine, ends)) =
+        loaded bytes there fine (file_end journal_format journal (then_ bytes) files a ends)
+plan_end (Gen seed out) files a end = inr (refl, some_is _ _ end)
+plan_end (Soak seed journal) files a end = inr (refl, some_is _ _ end)
 
 -- ---- the commands' promises
 
 -- how a command has ended over files that are told
 record HasEnded (command : Command) (files : Files) (old new : World) (status : ℕ) : Type 0 where
   a : Answer
-  end : IsEnd command files a (image_refusal command files)
+  end : IsEnd command files a
   replied : IsReplied IsAnswer a old new status
 
 ended : (words : Option Command) (command : Command) (files : Files) (old new : World) (status : ℕ)
@@ -308,55 +378,144 @@ ended words command files old new status carries about replying =
     replying in
     record { a = told.0; end = plan_end command files told.0 told.1; replied = told.2 }
 
-list_not_3 : (os : List Found) → code_of (list_status os) ≢ 3
-list_not_3 [] = omega arith
-list_not_3 (o ∷ os) = omega arith
+-- the statuses of a command's work: 0, 1 and 7
+abbrev IsDone : ℕ → Type 0
+IsDone n = (n ≡ 0) ⊎ ((n ≡ 1) ⊎ (n ≡ 7))
 
-end_not_3 : (end : Option End) → code_of (end_status end) ≢ 3
-end_not_3 None = omega arith
-end_not_3 (Some (Exit code)) = omega arith
-end_not_3 (Some (Fault thread rip cause addr)) = omega arith
-end_not_3 (Some (Refused page found thread)) = omega arith
+list_done : (os : List Found) → IsDone (code_of (list_status os))
+list_done [] = inl refl
+list_done (o ∷ os) = inr (inl refl)
 
--- a reply of one answer
-one_reply : (a : Answer) (r reply : Reply) → a ≡ One r → IsAnswer a reply → reply ≡ r
-one_reply a r reply is answer = rw is at answer
+end_done : (end : Option End) → IsDone (code_of (end_status end))
+end_done None = inr (inr refl)
+end_done (Some (Exit code)) = inl refl
+end_done (Some (Fault thread rip cause addr)) = inr (inl refl)
+end_done (Some (Refused page found thread)) = inr (inl refl)
 
-work_not_3 : (command : Command) (files : Files) (a : Answer) (old new : World) (status : ℕ)
-    → IsWorkEnd command files a → IsReplied IsAnswer a old new status → status ≢ 3
-work_not_3 (Inspect image) files a old new status (bytes, there, is) replied three =
-    let r = one_reply a _ replied.reply is replied.answer in
-    list_not_3 (image_list bytes) (ap (λ (x : Reply). code_of x.status) (sym r) ∙ sym replied.code
-    ∙ three)
-work_not_3 (Disasm image) files a old new status (bytes, there, is) replied three =
-    let r = one_reply a _ replied.reply is replied.answer in
-    let zero : 0 ≡ 3 = ap (λ (x : Reply). code_of x.status) (sym r) ∙ sym replied.code ∙ three in
-    omega (arith, zero)
-work_not_3 (Run image journal steps frames) files a old new status (bytes, there, is) replied
-    three =
-    let ran : IsAnswer (Ran journal (run_setup bytes steps frames)) replied.reply =
+-- of a reply with such a status
+done_by : (r reply : Reply) (status : ℕ) → status ≡ code_of reply.status → reply ≡ r
+    → IsDone (code_of r.status) → IsDone status
+done_by r reply status code is done =
+    rw (code ∙ ap (λ (x : Reply). code_of x.status) is) done
+
+work_done : (command : Command) (files : Files) (a : Answer) (old new : World) (status : ℕ)
+    → IsWorkEnd command files a → IsReplied IsAnswer a old new status → IsDone status
+work_done (Inspect image) files a old new status (bytes, there, is) replied =
+    done_by _ replied.reply status replied.code (one_reply a _ replied.reply is replied.answer)
+    (list_done (image_list bytes))
+work_done (Disasm image) files a old new status (bytes, there, is) replied =
+    done_by _ replied.reply status replied.code (one_reply a _ replied.reply is replied.answer)
+    (inl refl)
+work_done (Run image journal workers steps frames) files a old new status
+    (bytes, there, fine, can, is) replied =
+    let ran : IsAnswer (Ran report journal (run_setup bytes steps frames)) replied.reply =
     rw is at replied.answer in
-    end_not_3 ran.last.end (ap (λ (x : Reply). code_of x.status) (sym ran.answer) ∙ sym replied.code
-    ∙ three)
+    done_by _ replied.reply status replied.code ran.answer (end_done ran.last.end)
+work_done (Replay image journal) files a old new status (bytes, saved, there, here, spelled, is)
+    replied =
+    let ran : IsAnswer (Replayed (replay_setup bytes (journal_of saved)) (journal_of saved).entries)
+    replied.reply = rw is at replied.answer in
+    done_by _ replied.reply status replied.code ran.answer (end_done ran.last.end)
+work_done (Gen seed out) files a old new status is replied =
+    done_by _ replied.reply status replied.code (one_reply a _ replied.reply is replied.answer)
+    (inl refl)
+work_done (Soak seed journal) files a old new status is replied =
+    let ran : IsAnswer (Ran (λ entries s. soak_line seed s) journal (soak_setup seed))
+    replied.reply = rw is at replied.answer in
+    done_by _ replied.reply status replied.code ran.answer (end_done ran.last.end)
 
-refused_status : (command : Command) (files : Files) (a : Answer) (old new : World) (status : ℕ)
-    (refusal : Option (List ℕ)) → IsEnd command files a refusal
-    → IsReplied IsAnswer a old new status
-    → (status ≡ 3 → IsSome refusal) × (IsSome refusal → status ≡ 3)
-refused_status command files a old new status None end replied = (
-  λ three. absurd (work_not_3 command files a old new status end replied three),
-  λ some.
-      absurd cc,
+refuses_not_done : (why : Status) (n : ℕ) → Refuses why → IsDone n → n ≡ code_of why → ⊥
+refuses_not_done why n (inl image) done same = by done
+  where
+    three : n ≡ 3
+    three = same ∙ (rw image refl)
+
+    by : IsDone n → ⊥
+    by (inl zero) = omega (arith, three, zero)
+    by (inr (inl one)) = omega (arith, three, one)
+    by (inr (inr seven)) = omega (arith, three, seven)
+refuses_not_done why n (inr journal) done same = by done
+  where
+    six : n ≡ 6
+    six = same ∙ (rw journal refl)
+
+    by : IsDone n → ⊥
+    by (inl zero) = omega (arith, six, zero)
+    by (inr (inl one)) = omega (arith, six, one)
+    by (inr (inr seven)) = omega (arith, six, seven)
+
+-- two statuses that refuse are one where their numbers are
+one_status : (s t : Status) → Refuses s → Refuses t → code_of s ≡ code_of t → s ≡ t
+one_status s t (inl p) (inl q) same = p ∙ sym q
+one_status s t (inr p) (inr q) same = p ∙ sym q
+one_status s t (inl p) (inr q) same =
+    absurd (let bad : 3 ≡ 6 = rw (p, q) at same in omega (arith, bad))
+one_status s t (inr p) (inl q) same =
+    absurd (let bad : 6 ≡ 3 = rw (p, q) at same in omega (arith, bad))
+
+refused_status : (why : Status) (command : Command) (files : Files) (a : Answer) (old new : World)
+    (status : ℕ) → Refuses why → IsEnd command files a → IsReplied IsAnswer a old new status
+    → (status ≡ code_of why) ↔ IsRefusedAs why (refusal command files)
+refused_status why command files a old new status refuses (inr (none, work)) replied = (
+  λ same. absurd (refuses_not_done why status refuses
+      (work_done command files a old new status work replied) same),
+  λ (text, some). absurd (let bad = sym none ∙ some in cc),
 )
-refused_status command files a old new status (Some text) end replied =
-    let r = one_reply a (told ImageRefused text) replied.reply end replied.answer in
-    (λ three. refl, λ some. replied.code ∙ ap (λ (x : Reply). code_of x.status) r)
+refused_status why command files a old new status refuses (inl (st, text, other, cause, is)) replied
+    =
+    let r : replied.reply ≡ told st text = one_reply a _ replied.reply is replied.answer in
+    let code : status ≡ code_of st = replied.code ∙ ap (λ (x : Reply). code_of x.status) r in (
+      λ same. (
+        text,
+        cause ∙ ap (λ (s : Status). Some (told s text))
+            (one_status st why other refuses (sym code ∙ same)),
+      ),
+      λ (said, some). (let same : told st text ≡ told why said = (let e = sym cause ∙ some in cc) in
+          code ∙ ap (λ (x : Reply). code_of x.status) same),
+    )
 
-pub tells_refusal : (words : Option Command) (old new : World) (status : ℕ)
-    → Carries IsAnswer (plan_for words) old new status → TellsRefusal words old status
-tells_refusal words old new status carries command files about replying =
+pub tells_refusal : (why : Status) (words : Option Command) (old new : World) (status : ℕ)
+    → Refuses why → Carries IsAnswer (plan_for words) old new status
+    → TellsRefusal why words old status
+tells_refusal why words old new status refuses carries command files about replying =
     let e = ended words command files old new status carries about replying in
-    refused_status command files e.a old new status (image_refusal command files) e.end e.replied
+    refused_status why command files e.a old new status refuses e.end e.replied
+
+-- 7 is the status of a run without an end
+spent_status : (end : Option End) (status : ℕ) → status ≡ code_of (end_status end)
+    → (status ≡ 7) ↔ (end ≡ None)
+spent_status None status code = (λ seven. refl, λ none. code)
+spent_status (Some (Exit c)) status code =
+    (λ seven. absurd (omega (arith, code, seven)), λ none. absurd cc)
+spent_status (Some (Fault thread rip cause addr)) status code =
+    (λ seven. absurd (omega (arith, code, seven)), λ none. absurd cc)
+spent_status (Some (Refused page found thread)) status code =
+    (λ seven. absurd (omega (arith, code, seven)), λ none. absurd cc)
+
+-- a run that was answered
+shown_run : (told_of : List Entry → State → List ℕ) (journal : Name)
+    (bytes : List ℕ) (steps frames : ℕ) (a : Answer) (old new : World) (status : ℕ)
+    → reading_refusal image_format bytes ≡ None
+    → start_refusal (run_setup bytes steps frames) ≡ None
+    → a ≡ Ran told_of journal (run_setup bytes steps frames) → IsReplied IsAnswer a old new status
+    → ShowsRun told_of journal (run_setup bytes steps frames) old new status
+shown_run told_of journal bytes steps frames a old new status fine can is replied =
+    let setup = run_setup bytes steps frames in
+    let ran : IsAnswer (Ran told_of journal setup) replied.reply = rw is at replied.answer in
+    let whole : IsAnswered (ran_reply told_of journal setup ran.entries ran.last) old new =
+    rw ran.answer at replied.whole in
+    let code : status ≡ code_of (end_status ran.last.end) =
+    replied.code ∙ ap (λ (x : Reply). code_of x.status) ran.answer in
+    record {
+      entries = ran.entries;
+      last = ran.last;
+      own = ran.own;
+      saved = whole.store.held;
+      text = whole.text;
+      answer = code;
+      spent = spent_status ran.last.end status code;
+      again = replays_run bytes steps frames ran.entries ran.last fine can ran.own;
+    }
 
 -- a reply that was delivered whole shows what the command found
 shown : (command : Command) (files : Files) (a : Answer) (old new : World) (status : ℕ)
@@ -367,8 +526,7 @@ shown (Inspect image) files a old new status (bytes, there, is) replied =
       bytes,
       there,
       record {
-        answer = replied.code
-            ∙ ap (λ (x : Reply). code_of x.status) r;
+        answer = replied.code ∙ ap (λ (x : Reply). code_of x.status) r;
         text = rw r at replied.whole.text;
       },
     )
@@ -377,32 +535,56 @@ shown (Disasm image) files a old new status (bytes, there, is) replied =
       bytes,
       there,
       record {
-        answer = replied.code
-            ∙ ap (λ (x : Reply). code_of x.status) r;
+        answer = replied.code ∙ ap (λ (x : Reply). code_of x.status) r;
         text = rw r at replied.whole.text;
       },
     )
-shown (Run image journal steps frames) files a old new status (bytes, there, is) replied =
-    let ran : IsAnswer (Ran journal (run_setup bytes steps frames)) replied.reply =
+shown (Run image journal workers steps frames) files a old new status
+    (bytes, there, fine, can, is) replied = (
+      bytes,
+      there,
+      shown_run report journal bytes steps frames a old new status fine can is replied,
+    )
+shown (Replay image journal) files a old new status (bytes, saved, there, here, spelled, is)
+    replied =
+    let j = journal_of saved in
+    let ran : IsAnswer (Replayed (replay_setup bytes j) j.entries) replied.reply =
     rw is at replied.answer in
-    let whole : IsAnswered (ran_reply journal (run_setup bytes steps frames) ran.entries ran.last)
-    old new = rw ran.answer at replied.whole in
-    let shows : ShowsRun journal (run_setup bytes steps frames) old new status = record {
-      entries = ran.entries;
+    let whole : IsAnswered (replayed_reply j.entries ran.last) old new =
+    rw ran.answer at replied.whole in
+    let code : status ≡ code_of (end_status ran.last.end) =
+    replied.code ∙ ap (λ (x : Reply). code_of x.status) ran.answer in
+    let shows : ShowsReplay bytes saved old new status = record {
       last = ran.last;
       whole = ran.whole;
+      text = whole.text;
+      answer = code;
+      spent = spent_status ran.last.end status code;
+      spelling = saved_spelling saved spelled;
+    } in
+    (bytes, saved, there, here, shows)
+shown (Gen seed out) files a old new status is replied =
+    let r = one_reply a (gen_reply seed out) replied.reply is replied.answer in
+    let whole : IsAnswered (gen_reply seed out) old new = rw r at replied.whole in
+    record {
+      answer = replied.code ∙ ap (λ (x : Reply). code_of x.status) r;
       saved = whole.store.held;
       text = whole.text;
-      answer = replied.code ∙ ap (λ (x : Reply). code_of x.status) ran.answer;
-    } in
-    (bytes, there, shows)
+    }
+shown (Soak seed journal) files a old new status is replied =
+    shown_run (λ entries s. soak_line seed s) journal _ 1000000 1024 a old new status
+    (seed_accepted seed) (seed_starts seed) is replied
 
 pub tells_work : (words : Option Command) (old new : World) (status : ℕ)
     → Carries IsAnswer (plan_for words) old new status → TellsWork words old new status
 tells_work words old new status carries command files about taken replying =
     let e = ended words command files old new status carries about replying in
-    let end : IsEnd command files e.a None = rw taken at e.end in
-    shown command files e.a old new status end e.replied
+    by e e.end
+  where
+    by : (e : HasEnded command files old new status) → IsEnd command files e.a
+        → Shows command files old new status
+    by e (inl (st, text, refuses, cause, is)) = absurd (let bad = sym taken ∙ cause in cc)
+    by e (inr (none, work)) = shown command files e.a old new status work e.replied
 
 pub tells_complete : (words : Option Command) (old new : World) (status : ℕ)
     → Carries IsAnswer (plan_for words) old new status → IsComplete words old new status

@@ -63,14 +63,14 @@ abbrev pub IsMadeFor : Plan Answer → Result Made NoMemory → Type 0
 IsMadeFor plan (Ok made) = EndsAs plan (reply_of made)
 IsMadeFor plan (Err none) = ⊤
 
--- a step that loads and reads a file: it gave the bytes and changed nothing, and what then carries
+-- a step that loads and reads a file: it gave what was read and changed nothing, and what then carries
 -- out the rest carries out the whole; or it carried out the whole, whatever was to follow
-abbrev pub Passes : ((List ℕ → Plan Answer) → Plan Answer) → World → World → Result (List ℕ) ℕ
+abbrev pub Passes : {X : Type 0} → ((X → Plan Answer) → Plan Answer) → World → World → Result X ℕ
     → Type 0
-Passes step old new (Ok bytes) =
+Passes {X = X} step old new (Ok x) =
     (new ≡ old)
-    × ((next : List ℕ → Plan Answer) (later : World) (status : ℕ)
-    → Carries IsAnswer (next bytes) old later status
+    × ((next : X → Plan Answer) (later : World) (status : ℕ)
+    → Carries IsAnswer (next x) old later status
     → Carries IsAnswer (step next) old later status)
-Passes step old new (Err status) =
-    (next : List ℕ → Plan Answer) → Carries IsAnswer (step next) old new status
+Passes {X = X} step old new (Err status) =
+    (next : X → Plan Answer) → Carries IsAnswer (step next) old new status

@@ -1,73 +1,115 @@
 -- The plan of each command: what it loads, in the order of its loads, and what it answers. Own.
-use Rattle.std.specs.Prelude.{◌≤◌, ⊤, ℕ, Option, Some, None, List, codes}
+use Rattle.std.specs.Prelude.{ℕ, Option, Some, None, List, codes}
 use Rattle.erim_io.specs.Store.{Name}
-use Rattle.erim_defs.specs.Machine.State.{Setup}
-use Rattle.erim_defs.specs.Output.Words.{Command as Meant, Inspect, Disasm, Run}
+use Rattle.erim_defs.specs.declared.machine.Entry.{Entry}
+use Rattle.erim_defs.specs.Inspection.Unsafe.{image_list}
+use Rattle.erim_defs.specs.Machine.State.{Setup, State}
+use Rattle.erim_defs.specs.Output.Journal.{JournalValue, journal_of}
+use Rattle.erim_defs.specs.Output.MadeImage.{seed_image}
+use Rattle.erim_defs.specs.Output.MadeTexts.{soak_line}
+use Rattle.erim_defs.specs.Output.Report.{report}
+use Rattle.erim_defs.specs.Output.Words.{Command, Inspect, Disasm, Run, Replay, Gen, Soak}
+use Rattle.thread_runner.specs.declared.replays.ReplayFault.{ReplayFault}
+use Rattle.thread_runner.specs.Replays.{replay_fault}
+use Rattle.erim_commands.specs.declared.reply.Status.{Status}
 use Rattle.erim_commands.specs.declared.reply.Status.TheVariants.{NotUnderstood, ImageRefused}
-use Rattle.erim_commands.specs.declared.words.Command.{Command}
-use Rattle.erim_commands.specs.declared.words.Command.TheVariants as code
+use Rattle.erim_commands.specs.declared.reply.Status.TheVariants.{JournalRefused}
 use Rattle.erim_commands.specs.Plans.{Plan, Ask, Tell, unless}
-use Rattle.erim_commands.specs.Replies.{Answer, One, Ran, told, image_fault, start_refusal}
-use Rattle.erim_commands.specs.Replies.{image_list}
-use Rattle.erim_commands.specs.Replies.{listed_reply, disasm_reply}
+use Rattle.erim_commands.specs.Replies.{Answer, One, Ran, Replayed, told, image_fault}
+use Rattle.erim_commands.specs.Replies.{start_refusal, journal_refusal, break_status, break_text}
+use Rattle.erim_commands.specs.Replies.{listed_reply, disasm_reply, gen_reply}
+
+-- ---- files that commands load
+
+-- a form of files: the most bytes that one has, the status and the text where it has more, its first
+-- fault, and what it says where it has none
+pub record Format (X : Type 0) : Type 0 where
+  pub limit : ℕ
+  pub status : Status
+  pub too_large : List ℕ
+  pub fault : List ℕ → Option (List ℕ)
+  pub value : List ℕ → X
+
+-- images have at most 8 MiB
+abbrev pub image_format : Format (List ℕ)
+image_format = record {
+  limit = 8388608;
+  status = ImageRefused;
+  too_large = codes "image too large";
+  fault = image_fault;
+  value = λ bytes. bytes;
+}
+
+-- journals have at most the bytes of one of the most entries
+abbrev pub journal_format : Format JournalValue
+journal_format = record {
+  limit = 33554452;
+  status = JournalRefused;
+  too_large = codes "journal too large";
+  fault = journal_refusal;
+  value = journal_of;
+}
 
 -- ---- steps of plans
 
--- 8 MiB
-abbrev pub image_limit : ℕ
-image_limit = 8388608
+abbrev pub refused : Status → List ℕ → Answer
+refused status text = One (told status text)
 
-abbrev pub image_refused : List ℕ → Answer
-image_refused text = One (told ImageRefused text)
-
--- loads an image of at most 8 MiB and reads it
-abbrev pub with_image : Name → (List ℕ → Plan Answer) → Plan Answer
-with_image name next =
-    Ask name image_limit (image_refused (codes "image too large"))
-    (λ bytes. unless (image_fault bytes) image_refused (next bytes))
+-- loads a file and reads it
+abbrev pub with_file : {X : Type 0} → Format X → Name → (X → Plan Answer) → Plan Answer
+with_file format name next =
+    Ask name format.limit (refused format.status format.too_large)
+    (λ bytes. unless (format.fault bytes) (refused format.status) (next (format.value bytes)))
 
 -- starts the image of a setup
 abbrev pub with_start : Setup → Plan Answer → Plan Answer
-with_start setup next = unless (start_refusal setup) image_refused next
+with_start setup next = unless (start_refusal setup) (refused ImageRefused) next
 
 -- starts it and runs it
-abbrev pub started_run : Name → Setup → Plan Answer
-started_run journal setup = with_start setup (Tell (Ran journal setup))
+abbrev pub started_run : (List Entry → State → List ℕ) → Name → Setup → Plan Answer
+started_run told_of journal setup = with_start setup (Tell (Ran told_of journal setup))
+
+abbrev pub refused_break : ReplayFault → Answer
+refused_break fault = refused (break_status fault) (break_text fault)
+
+-- starts it and makes the steps of entries
+abbrev pub started_replay : Setup → List Entry → Plan Answer
+started_replay setup entries =
+    unless (replay_fault setup entries) refused_break (Tell (Replayed setup entries))
 
 -- ---- commands
 
 abbrev pub run_setup : List ℕ → ℕ → ℕ → Setup
 run_setup bytes steps frames = record { image = bytes; budget = steps; frames = frames }
 
-abbrev pub plan_of : Meant → Plan Answer
-plan_of (Inspect image) = with_image image (λ bytes. Tell (One (listed_reply (image_list bytes))))
-plan_of (Disasm image) = with_image image (λ bytes. Tell (One (disasm_reply bytes)))
-plan_of (Run image journal steps frames) =
-    with_image image (λ bytes. started_run journal (run_setup bytes steps frames))
+-- with the budget and the frames that the journal had
+abbrev pub replay_setup : List ℕ → JournalValue → Setup
+replay_setup bytes j = run_setup bytes j.budget j.frames
+
+-- a made image starts, with 1,000,000 steps and 1,024 frames
+abbrev pub soak_setup : ℕ → Setup
+soak_setup seed = run_setup (seed_image seed) 1000000 1024
+
+-- the workers have no effect: each run is made by one, of number 0
+abbrev pub plan_of : Command → Plan Answer
+plan_of (Inspect image) =
+    with_file image_format image (λ bytes. Tell (One (listed_reply (image_list bytes))))
+plan_of (Disasm image) =
+    with_file image_format image (λ bytes. Tell (One (disasm_reply bytes)))
+plan_of (Run image journal workers steps frames) =
+    with_file image_format image
+    (λ bytes. started_run report journal (run_setup bytes steps frames))
+plan_of (Replay image journal) =
+    with_file image_format image
+    (λ bytes. with_file journal_format journal
+    (λ j. started_replay (replay_setup bytes j) j.entries))
+plan_of (Gen seed out) = Tell (One (gen_reply seed out))
+plan_of (Soak seed journal) = Tell (Ran (λ entries s. soak_line seed s) journal (soak_setup seed))
 
 abbrev pub not_understood : Answer
 not_understood = One (told NotUnderstood (codes "words not understood"))
 
 -- the plan of what the words mean
-abbrev pub plan_for : Option Meant → Plan Answer
+abbrev pub plan_for : Option Command → Plan Answer
 plan_for None = Tell not_understood
 plan_for (Some command) = plan_of command
-
--- ---- commands of the code
-
-abbrev pub meaning : Command → Meant
-meaning (code.Inspect image) = Inspect image.now
-meaning (code.Disasm image) = Disasm image.now
-meaning (code.Run image journal steps frames) = Run image.now journal.now steps frames
-
--- the numbers of a run are those that a process may have: 1 to 4,194,304 steps, 64 to 4,096 frames
-pub record AreRunNumbers (steps frames : ℕ) : Type 0 where
-  pub some : 1 ≤ steps
-  pub steps_most : steps ≤ 4194304
-  pub least : 64 ≤ frames
-  pub frames_most : frames ≤ 4096
-
-abbrev pub HasNumbers : Command → Type 0
-HasNumbers (code.Inspect image) = ⊤
-HasNumbers (code.Disasm image) = ⊤
-HasNumbers (code.Run image journal steps frames) = AreRunNumbers steps frames

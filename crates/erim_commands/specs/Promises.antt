@@ -1,22 +1,32 @@
 -- What the end of a call tells, status by status: of each plan, and of each command.
-use Rattle.std.specs.Prelude.{◌≡◌, ◌≢◌, ◌⊎◌, ◌↔◌, nat_lt, ℕ, Option, Some, None, IsSome, List, []}
-use Rattle.std.specs.Prelude.{◌∷◌, ◌++◌, length, codes, if◌then◌else◌}
+use Rattle.std.specs.Prelude.{◌≡◌, ◌≢◌, ◌⊎◌, ◌↔◌, nat_lt, ℕ, Option, Some, None, List, []}
+use Rattle.std.specs.Prelude.{◌∷◌, ◌++◌, length, if◌then◌else◌}
+use Rattle.std.specs.Option.{option_map}
 use Rattle.std.specs.Io.KnownBytes.{Appends}
 use Rattle.erim_io.specs.Store.{Name, Files, holding}
 use Rattle.erim_io.specs.Sink.{HasRisen}
 use Rattle.erim_defs.specs.declared.machine.Entry.{Entry}
-use Rattle.erim_defs.specs.Inspection.Code.{or_else}
 use Rattle.erim_defs.specs.Encoding.Disasm.{disasm_text}
-use Rattle.erim_defs.specs.Output.Journal.{journal_text}
-use Rattle.erim_defs.specs.Output.Report.{report}
+use Rattle.erim_defs.specs.Encoding.Parts.{AreBytes}
+use Rattle.erim_defs.specs.Inspection.Code.{or_else}
+use Rattle.erim_defs.specs.Inspection.Unsafe.{image_list}
 use Rattle.erim_defs.specs.Machine.State.{Setup, State}
+use Rattle.erim_defs.specs.Output.Journal.{IsJournal, journal_of, journal_text}
+use Rattle.erim_defs.specs.Output.MadeImage.{seed_image}
+use Rattle.erim_defs.specs.Output.MadeTexts.{gen_line, soak_line}
+use Rattle.erim_defs.specs.Output.Report.{report}
 use Rattle.erim_defs.specs.Output.Texts.{inspect_text}
-use Rattle.erim_defs.specs.Output.Words.{Command, Inspect, Disasm, Run}
+use Rattle.erim_defs.specs.Output.Words.{Command, Inspect, Disasm, Run, Replay, Gen, Soak}
+use Rattle.thread_runner.specs.Replays.{replay_fault}
+use Rattle.erim_commands.specs.declared.reply.Status.{Status}
+use Rattle.erim_commands.specs.declared.reply.Status.TheVariants.{ImageRefused, JournalRefused}
 use Rattle.erim_commands.specs.Statuses.{code_of}
-use Rattle.erim_commands.specs.Replies.{Reply, image_fault, start_refusal, image_list, list_status}
-use Rattle.erim_commands.specs.Replies.{end_status, journal_of, IsWholeRun}
+use Rattle.erim_commands.specs.Replies.{Answer, IsAnswer, Reply, told, start_refusal}
+use Rattle.erim_commands.specs.Replies.{break_status, break_text, list_status, end_status}
+use Rattle.erim_commands.specs.Replies.{run_journal, IsWholeRun, IsOwnRun, replayed_reply}
 use Rattle.erim_commands.specs.Plans.{Plan, end_of}
-use Rattle.erim_commands.specs.Commands.{image_limit, run_setup}
+use Rattle.erim_commands.specs.Commands.{Format, image_format, journal_format, plan_of, run_setup}
+use Rattle.erim_commands.specs.Commands.{replay_setup, soak_setup}
 use Rattle.erim_commands.specs.Delivery.{World, IsAnswered, IsUntouched}
 
 -- ---- of each plan
@@ -66,19 +76,42 @@ abbrev pub of_file : {B : Type 0} → Option (List ℕ) → (List ℕ → Option
 of_file None f = None
 of_file (Some bytes) f = f bytes
 
--- why bytes are no image: they are above 8 MiB, or have a fault
-abbrev pub reading_refusal : List ℕ → Option (List ℕ)
-reading_refusal bytes =
-    if nat_lt image_limit (length bytes) then Some (codes "image too large") else image_fault bytes
+-- why bytes are no file of a format: they are too many, or have a fault
+abbrev pub reading_refusal : {X : Type 0} → Format X → List ℕ → Option (List ℕ)
+reading_refusal format bytes =
+    if nat_lt format.limit (length bytes) then Some format.too_large else format.fault bytes
 
--- why the image of a command is refused, over files that the store tells: `run` asks whether it
--- can start
-unfoldable pub image_refusal : Command → Files → Option (List ℕ)
-image_refusal (Inspect image) files = of_file (files image) reading_refusal
-image_refusal (Disasm image) files = of_file (files image) reading_refusal
-image_refusal (Run image journal steps frames) files =
+-- the reply that says why, where there is a cause
+abbrev pub refused_as : Status → Option (List ℕ) → Option Reply
+refused_as status cause = option_map (told status) cause
+
+-- the reply that says what breaks a replay
+abbrev pub replay_refusal : Setup → List Entry → Option Reply
+replay_refusal setup entries =
+    option_map (λ fault. told (break_status fault) (break_text fault)) (replay_fault setup entries)
+
+-- reads a journal, and then replays it
+abbrev pub saved_refusal : List ℕ → List ℕ → Option Reply
+saved_refusal bytes saved =
+    or_else (refused_as JournalRefused (reading_refusal journal_format saved))
+    (replay_refusal (replay_setup bytes (journal_of saved)) (journal_of saved).entries)
+
+-- why a command does nothing, over files that the store tells: the first cause in its order
+unfoldable pub refusal : Command → Files → Option Reply
+refusal (Inspect image) files =
+    of_file (files image) (λ bytes. refused_as ImageRefused (reading_refusal image_format bytes))
+refusal (Disasm image) files =
+    of_file (files image) (λ bytes. refused_as ImageRefused (reading_refusal image_format bytes))
+refusal (Run image journal workers steps frames) files =
     of_file (files image)
-    (λ bytes. or_else (reading_refusal bytes) (start_refusal (run_setup bytes steps frames)))
+    (λ bytes. refused_as ImageRefused
+    (or_else (reading_refusal image_format bytes) (start_refusal (run_setup bytes steps frames))))
+refusal (Replay image journal) files =
+    of_file (files image)
+    (λ bytes. or_else (refused_as ImageRefused (reading_refusal image_format bytes))
+    (of_file (files journal) (saved_refusal bytes)))
+refusal (Gen seed out) files = None
+refusal (Soak seed journal) files = None
 
 -- the words mean this command, and the store tells these files
 pub record IsAbout (words : Option Command) (command : Command) (old : World) (files : Files)
@@ -86,11 +119,15 @@ pub record IsAbout (words : Option Command) (command : Command) (old : World) (f
   pub meant : words ≡ Some command
   pub told : old.held ≡ Some files
 
--- 3 exactly where the image is refused
-abbrev pub TellsRefusal : Option Command → World → ℕ → Type 0
-TellsRefusal words old status =
+-- there is a cause, of this status
+abbrev pub IsRefusedAs : Status → Option Reply → Type 0
+IsRefusedAs status refusal = (text : List ℕ) × (refusal ≡ Some (told status text))
+
+-- 3 exactly where the image is refused, and 6 exactly where the journal is
+abbrev pub TellsRefusal : Status → Option Command → World → ℕ → Type 0
+TellsRefusal why words old status =
     (command : Command) (files : Files) → IsAbout words command old files → IsReplying status
-    → ((status ≡ 3) ↔ IsSome (image_refusal command files))
+    → ((status ≡ code_of why) ↔ IsRefusedAs why (refusal command files))
 
 -- ---- what each command shows
 
@@ -104,15 +141,45 @@ pub record ShowsInstructions (bytes : List ℕ) (old new : World) (status : ℕ)
   pub answer : status ≡ 0
   pub text : Appends old.written new.written (disasm_text bytes)
 
--- the journal of a whole run from the setup was saved under its name, and nothing else; the report
--- of its replay was added to what was written; the status is that of its end
-pub record ShowsRun (journal : Name) (setup : Setup) (old new : World) (status : ℕ) : Type 0 where
+-- over all files with this image and this journal, `replay` ends with this reply
+abbrev pub ReplaysTo : List ℕ → List ℕ → Reply → Type 0
+ReplaysTo bytes saved reply =
+    (image journal : Name) (files : Files) → files image ≡ Some bytes → files journal ≡ Some saved
+    → (a : Answer) × (end_of (plan_of (Replay image journal)) files ≡ Some a)
+    × ((r : Reply) → IsAnswer a r → r ≡ reply)
+
+-- the journal of a run from the setup was saved under its name, and nothing else; a text of the run
+-- was added to what was written; the status is that of its end, and 7 where it has none. To replay
+-- what was saved prints the report of this run, with this status.
+pub record ShowsRun (told_of : List Entry → State → List ℕ) (journal : Name) (setup : Setup)
+    (old new : World) (status : ℕ) : Type 0 where
   pub entries : List Entry
   pub last : State
-  pub whole : IsWholeRun setup entries last
-  pub saved : new.held ≡ holding journal (journal_text (journal_of setup entries)) old.held
-  pub text : Appends old.written new.written (report entries last)
+  pub own : IsOwnRun setup entries last
+  pub saved : new.held ≡ holding journal (journal_text (run_journal setup entries)) old.held
+  pub text : Appends old.written new.written (told_of entries last)
   pub answer : status ≡ code_of (end_status last.end)
+  pub spent : (status ≡ 7) ↔ (last.end ≡ None)
+  pub again : ReplaysTo setup.image (journal_text (run_journal setup entries))
+      (replayed_reply entries last)
+
+-- the entries of the journal that was loaded lead from its setup to an end or to where the budget is
+-- spent; the report was added to what was written; the status is that of the end, and 7 where there
+-- is none. The bytes that were loaded, if bytes they are, are those of that journal.
+pub record ShowsReplay (bytes saved : List ℕ) (old new : World) (status : ℕ) : Type 0 where
+  pub last : State
+  pub whole : IsWholeRun (replay_setup bytes (journal_of saved)) (journal_of saved).entries last
+  pub text : Appends old.written new.written (report (journal_of saved).entries last)
+  pub answer : status ≡ code_of (end_status last.end)
+  pub spent : (status ≡ 7) ↔ (last.end ≡ None)
+  pub spelling : AreBytes saved
+      → IsJournal (journal_of saved) × (saved ≡ journal_text (journal_of saved))
+
+-- the made image was saved under its name, and nothing else; its line was added
+pub record ShowsImage (seed : ℕ) (out : Name) (old new : World) (status : ℕ) : Type 0 where
+  pub answer : status ≡ 0
+  pub saved : new.held ≡ holding out (seed_image seed) old.held
+  pub text : Appends old.written new.written (gen_line seed (length (seed_image seed)))
 
 -- the bytes of each file that a command loads, and what it shows of them
 abbrev pub Shows : Command → Files → World → World → ℕ → Type 0
@@ -120,16 +187,24 @@ Shows (Inspect image) files old new status =
     (bytes : List ℕ) × (files image ≡ Some bytes) × ShowsList bytes old new status
 Shows (Disasm image) files old new status =
     (bytes : List ℕ) × (files image ≡ Some bytes) × ShowsInstructions bytes old new status
-Shows (Run image journal steps frames) files old new status =
+Shows (Run image journal workers steps frames) files old new status =
     (bytes : List ℕ)
     × (files image ≡ Some bytes)
-    × ShowsRun journal (run_setup bytes steps frames) old new status
+    × ShowsRun report journal (run_setup bytes steps frames) old new status
+Shows (Replay image journal) files old new status =
+    (bytes saved : List ℕ)
+    × (files image ≡ Some bytes)
+    × (files journal ≡ Some saved)
+    × ShowsReplay bytes saved old new status
+Shows (Gen seed out) files old new status = ShowsImage seed out old new status
+Shows (Soak seed journal) files old new status =
+    ShowsRun (λ entries s. soak_line seed s) journal (soak_setup seed) old new status
 
--- a command whose image isn't refused shows what it found
+-- a command that isn't refused shows what it found
 abbrev pub TellsWork : Option Command → World → World → ℕ → Type 0
 TellsWork words old new status =
     (command : Command) (files : Files) → IsAbout words command old files
-    → image_refusal command files ≡ None → IsReplying status → Shows command files old new status
+    → refusal command files ≡ None → IsReplying status → Shows command files old new status
 
 -- ---- what fails
 
@@ -138,14 +213,20 @@ abbrev pub IsLoadedBy : Option Command → Name → Type 0
 IsLoadedBy None name = ⊥
 IsLoadedBy (Some (Inspect image)) name = name ≡ image
 IsLoadedBy (Some (Disasm image)) name = name ≡ image
-IsLoadedBy (Some (Run image journal steps frames)) name = name ≡ image
+IsLoadedBy (Some (Run image journal workers steps frames)) name = name ≡ image
+IsLoadedBy (Some (Replay image journal)) name = (name ≡ image) ⊎ (name ≡ journal)
+IsLoadedBy (Some (Gen seed out)) name = ⊥
+IsLoadedBy (Some (Soak seed journal)) name = ⊥
 
 -- the names that a command saves
 abbrev pub IsSavedBy : Option Command → Name → Type 0
 IsSavedBy None name = ⊥
 IsSavedBy (Some (Inspect image)) name = ⊥
 IsSavedBy (Some (Disasm image)) name = ⊥
-IsSavedBy (Some (Run image journal steps frames)) name = name ≡ journal
+IsSavedBy (Some (Run image journal workers steps frames)) name = name ≡ journal
+IsSavedBy (Some (Replay image journal)) name = ⊥
+IsSavedBy (Some (Gen seed out)) name = name ≡ out
+IsSavedBy (Some (Soak seed journal)) name = name ≡ journal
 
 -- a name that the command loads joined the failed loads
 abbrev pub GainsLoad : Option Command → World → World → Type 0
@@ -169,9 +250,9 @@ pub record IsClean (old new : World) : Type 0 where
   pub saves : new.failed_saves ≡ old.failed_saves
   pub puts : ¬ HasRisen old.faults new.faults
 
--- without a fault a command whose image isn't refused does its work, unless memory runs out
+-- without a fault a command that isn't refused does its work, unless memory runs out
 abbrev pub IsComplete : Option Command → World → World → ℕ → Type 0
 IsComplete words old new status =
     (command : Command) (files : Files) → IsAbout words command old files
-    → image_refusal command files ≡ None → IsClean old new
+    → refusal command files ≡ None → IsClean old new
     → (status ≡ 5) ⊎ Shows command files old new status

@@ -1,5 +1,5 @@
 -- What a command answers: a status, a text, and a file to save before the text is written. Own.
-use Rattle.std.specs.Prelude.{◌≡◌, ℕ, Option, Some, None, List, [], ◌∷◌, ◌++◌, codes}
+use Rattle.std.specs.Prelude.{◌≡◌, ℕ, Option, Some, None, List, [], ◌∷◌, ◌++◌, codes, length}
 use Rattle.std.specs.Fmt.{decimal}
 use Rattle.std.specs.Option.{option_map}
 use Rattle.erim_io.specs.Store.{Name}
@@ -8,23 +8,29 @@ use Rattle.erim_defs.specs.declared.machine.End.{End}
 use Rattle.erim_defs.specs.declared.machine.End.TheVariants.{Exit, Fault, Refused}
 use Rattle.erim_defs.specs.declared.machine.Entry.{Entry}
 use Rattle.erim_defs.specs.Encoding.Disasm.{disasm_text}
-use Rattle.erim_defs.specs.Inspection.Image.{first_fault, image_code, image_trust}
+use Rattle.erim_defs.specs.Inspection.Image.{first_fault}
 use Rattle.erim_defs.specs.Machine.Isolation.{IsIsolated}
-use Rattle.erim_defs.specs.Output.Journal.{JournalValue, IsJournal, journal_text}
 use Rattle.erim_defs.specs.Machine.Replay.{replay, IsOver}
-use Rattle.erim_defs.specs.Output.Report.{report}
 use Rattle.erim_defs.specs.Machine.State.{Setup, State}
-use Rattle.erim_defs.specs.Output.Texts.{inspect_text, fault_text, kind_text, address_text}
-use Rattle.erim_defs.specs.Output.Texts.{error_line}
-use Rattle.erim_defs.specs.Inspection.Unsafe.{unsafe_list}
+use Rattle.erim_defs.specs.Output.Journal.{JournalValue, IsJournal, journal_text, journal_fault}
+use Rattle.erim_defs.specs.Output.MadeImage.{seed_image}
+use Rattle.erim_defs.specs.Output.MadeTexts.{gen_line}
+use Rattle.erim_defs.specs.Output.Report.{report}
+use Rattle.erim_defs.specs.Output.Texts.{inspect_text, fault_text, journal_fault_text, kind_text}
+use Rattle.erim_defs.specs.Output.Texts.{address_text, error_line}
 use Rattle.erim_process.specs.declared.start_fault.StartFault.{StartFault}
 use Rattle.erim_process.specs.declared.start_fault.StartFault.TheVariants.{TrustedUnsafe}
 use Rattle.erim_process.specs.declared.start_fault.StartFault.TheVariants.{TooFewFrames, Memory}
 use Rattle.erim_process.specs.StartFaults.{start_fault}
+use Rattle.thread_runner.specs.declared.replays.ReplayFault.{ReplayFault}
+use Rattle.thread_runner.specs.declared.replays.ReplayFault.TheVariants.{Start, PastEnd}
+use Rattle.thread_runner.specs.declared.replays.ReplayFault.TheVariants.{PastBudget, NotLive}
+use Rattle.thread_runner.specs.declared.replays.ReplayFault.TheVariants.{Unfinished}
 use Rattle.thread_runner.specs.Running.{AreAlone}
 use Rattle.isolation.specs.Laws.{AreLawful}
 use Rattle.erim_commands.specs.declared.reply.Status.{Status}
 use Rattle.erim_commands.specs.declared.reply.Status.TheVariants.{Done, AtFault, Spent}
+use Rattle.erim_commands.specs.declared.reply.Status.TheVariants.{ImageRefused, JournalRefused}
 
 -- a file to save
 pub record Saved : Type 0 where
@@ -58,16 +64,35 @@ start_text Memory = codes "out of memory"
 abbrev pub start_refusal : Setup → Option (List ℕ)
 start_refusal setup = option_map start_text (start_fault setup)
 
+-- ---- what is wrong with a journal
+
+-- its first fault, as text
+abbrev pub journal_refusal : List ℕ → Option (List ℕ)
+journal_refusal bytes = option_map journal_fault_text (journal_fault bytes)
+
+-- what breaks a replay, as text: what keeps the process from starting; the entry of the first step
+-- that can't be made; that the process could go on
+abbrev pub break_text : ReplayFault → List ℕ
+break_text (Start fault) = start_text fault
+break_text (PastEnd index) = codes "journal entry " ++ decimal index ++ codes " past end"
+break_text (PastBudget index) = codes "journal entry " ++ decimal index ++ codes " past budget"
+break_text (NotLive index) = codes "journal entry " ++ decimal index ++ codes " not live"
+break_text Unfinished = codes "journal unfinished"
+
+-- it is the image that can't start, or the journal
+abbrev pub break_status : ReplayFault → Status
+break_status (Start fault) = ImageRefused
+break_status (PastEnd index) = JournalRefused
+break_status (PastBudget index) = JournalRefused
+break_status (NotLive index) = JournalRefused
+break_status Unfinished = JournalRefused
+
 -- ---- inspect
 
 -- that of an empty list, and that of any other
 abbrev pub list_status : List Found → Status
 list_status [] = Done
 list_status (o ∷ os) = AtFault
-
--- the unsafe list of the image code
-abbrev pub image_list : List ℕ → List Found
-image_list bytes = unsafe_list (image_trust bytes) (image_code bytes)
 
 abbrev pub listed_reply : List Found → Reply
 listed_reply os = record { status = list_status os; text = inspect_text os; save = None }
@@ -77,7 +102,7 @@ listed_reply os = record { status = list_status os; text = inspect_text os; save
 abbrev pub disasm_reply : List ℕ → Reply
 disasm_reply bytes = record { status = Done; text = disasm_text bytes; save = None }
 
--- ---- run
+-- ---- runs
 
 -- that of an exit, of a fault or a refused page, of a budget that was spent
 abbrev pub end_status : Option End → Status
@@ -86,44 +111,76 @@ end_status (Some (Exit code)) = Done
 end_status (Some (Fault thread rip cause addr)) = AtFault
 end_status (Some (Refused page found thread)) = AtFault
 
--- the journal of a run from a setup by these entries
-abbrev pub journal_of : Setup → List Entry → JournalValue
-journal_of setup entries =
-    record { budget = setup.budget; frames = setup.frames; entries = entries }
-
--- entries that lead from the setup to an end, or to where the budget is spent. They are a
--- journal's, and name no worker but 0. Every state of this run, and of each other run from the
--- setup, keeps the isolation invariant, and every step is lawful.
+-- entries that lead from the setup to an end, or to where the budget is spent. Every state of this
+-- run, and of each other run from the setup, keeps the isolation invariant, and every step is
+-- lawful.
 pub record IsWholeRun (setup : Setup) (entries : List Entry) (last : State) : Type 0 where
   pub runs : replay setup entries ≡ Some last
   pub over : IsOver last
-  pub form : IsJournal (journal_of setup entries)
-  pub alone : AreAlone entries
   pub isolated : IsIsolated setup
   pub lawful : AreLawful setup
 
--- the reply to a run: its report is printed, and its journal saved
-abbrev pub ran_reply : Name → Setup → List Entry → State → Reply
-ran_reply journal setup entries last = record {
+-- the journal of a run from a setup by these entries
+abbrev pub run_journal : Setup → List Entry → JournalValue
+run_journal setup entries =
+    record { budget = setup.budget; frames = setup.frames; entries = entries }
+
+-- a whole run whose schedule the program chose: its entries are a journal's, and name no worker
+-- but 0
+pub record IsOwnRun (setup : Setup) (entries : List Entry) (last : State) : Type 0 where
+  pub whole : IsWholeRun setup entries last
+  pub form : IsJournal (run_journal setup entries)
+  pub alone : AreAlone entries
+
+-- ---- run and soak
+
+-- the reply to a run: a text of it is printed, and its journal saved
+abbrev pub ran_reply : (List Entry → State → List ℕ) → Name → Setup → List Entry → State → Reply
+ran_reply told_of journal setup entries last = record {
   status = end_status last.end;
-  text = report entries last;
-  save = Some (record { name = journal; bytes = journal_text (journal_of setup entries) });
+  text = told_of entries last;
+  save = Some (record { name = journal; bytes = journal_text (run_journal setup entries) });
 }
 
--- the reply to some whole run, whichever schedule was taken
-pub record IsRunReply (journal : Name) (setup : Setup) (reply : Reply) : Type 0 where
+-- the reply to some run, whichever schedule was taken
+pub record IsRunReply (told_of : List Entry → State → List ℕ) (journal : Name) (setup : Setup)
+    (reply : Reply) : Type 0 where
   pub entries : List Entry
   pub last : State
+  pub own : IsOwnRun setup entries last
+  pub answer : reply ≡ ran_reply told_of journal setup entries last
+
+-- ---- replay
+
+abbrev pub replayed_reply : List Entry → State → Reply
+replayed_reply entries last =
+    record { status = end_status last.end; text = report entries last; save = None }
+
+-- the reply to the whole run that entries lead to
+pub record IsReplayReply (setup : Setup) (entries : List Entry) (reply : Reply) : Type 0 where
+  pub last : State
   pub whole : IsWholeRun setup entries last
-  pub answer : reply ≡ ran_reply journal setup entries last
+  pub answer : reply ≡ replayed_reply entries last
+
+-- ---- gen
+
+abbrev pub gen_reply : ℕ → Name → Reply
+gen_reply seed out = record {
+  status = Done;
+  text = gen_line seed (length (seed_image seed));
+  save = Some (record { name = out; bytes = seed_image seed });
+}
 
 -- ---- all commands
 
--- what stands at a plan's end: one reply, or those of a run, whose schedule may be chosen
+-- what stands at a plan's end: one reply, those of a run, whose schedule may be chosen, with what is
+-- told of it, or that of a replay
 pub data Answer : Type 0 where
   One : Reply → Answer
-  Ran : (journal : Name) (setup : Setup) → Answer
+  Ran : (told_of : List Entry → State → List ℕ) (journal : Name) (setup : Setup) → Answer
+  Replayed : (setup : Setup) (entries : List Entry) → Answer
 
 abbrev pub IsAnswer : Answer → Reply → Type 0
 IsAnswer (One reply) r = r ≡ reply
-IsAnswer (Ran journal setup) r = IsRunReply journal setup r
+IsAnswer (Ran told_of journal setup) r = IsRunReply told_of journal setup r
+IsAnswer (Replayed setup entries) r = IsReplayReply setup entries r

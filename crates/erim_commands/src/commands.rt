@@ -1,14 +1,17 @@
-//! The commands, each in a file of its own.
+//! The commands, each in a file of its own, and the two on made images in one.
 
-ghost use Rattle.erim_commands.specs.Commands.{HasNumbers, meaning, plan_of};
+ghost use Rattle.command_words.specs.Commands.{HasNumbers, meaning};
+ghost use Rattle.erim_commands.specs.Commands.{plan_of};
 ghost use Rattle.erim_commands.specs.Delivery.{Carries, world};
 ghost use Rattle.erim_commands.specs.Replies.{IsAnswer};
 
 mod disasm;
 mod inspect;
-pub mod run;
+mod made;
+mod replay;
+mod run;
 
-use crate::words::Command;
+use command_words::Command;
 use erim_io::{Sink, Store};
 use std::alloc::Global;
 
@@ -30,8 +33,12 @@ pub fn carry_out<S: Store, K: Sink>(
         Command::Run {
             image,
             journal,
+            workers,
             steps,
             frames,
-        } => run::run(alloc, image, journal, steps, frames, store, out),
+        } => run::run(alloc, image, journal, workers, steps, frames, store, out),
+        Command::Replay { image, journal } => replay::replay(alloc, image, journal, store, out),
+        Command::Gen { seed, out: name } => made::generate(alloc, seed, name, store, out),
+        Command::Soak { seed, journal } => made::soak(alloc, seed, journal, store, out),
     }
 }

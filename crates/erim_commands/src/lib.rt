@@ -9,14 +9,12 @@
 
 mod commands;
 mod delivery;
-mod journal;
 mod loads;
 mod reply;
-mod report;
+mod runs;
 mod text;
 mod top_call;
-mod words;
 
-pub use reply::OUT_OF_MEMORY;
+pub use reply::{NOT_UNDERSTOOD, OUT_OF_MEMORY};
 pub use text::fault_line;
 pub use top_call::erim_plain;

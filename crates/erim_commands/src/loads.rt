@@ -2,23 +2,29 @@
 
 ghost use Rattle.std.specs.Prelude.{◌≡◌, ◌≢◌, ℕ, List, IfOk};
 ghost use Rattle.std.specs.String.{string_bytes};
-ghost use Rattle.erim_defs.specs.Output.Texts.{error_line, fault_text};
+ghost use Rattle.erim_defs.specs.Output.Journal.{IsJournal};
+ghost use Rattle.erim_defs.specs.Output.Texts.{error_line, fault_text, journal_fault_text};
 ghost use Rattle.erim_commands.specs.declared.reply.Status.TheVariants.{ImageRefused};
+ghost use Rattle.erim_commands.specs.declared.reply.Status.TheVariants.{JournalRefused};
 ghost use Rattle.erim_commands.specs.CallParts.{Loads, Passes, reply_of};
-ghost use Rattle.erim_commands.specs.Commands.{with_image};
+ghost use Rattle.erim_commands.specs.Commands.{image_format, journal_format, with_file};
 ghost use Rattle.erim_commands.specs.Delivery.{world};
 ghost use Rattle.erim_commands.specs.Replies.{told};
 
 use crate::delivery::{conclude, put};
 use crate::reply::{FAILED, OUT_OF_MEMORY, Reply, Status, code_of};
-use crate::text::fault_line;
+use crate::text::{fault_line, journal_fault_line};
 use elf_image::{Image, ImageFault, read_image};
-use erim_defs::NoMemory;
+use erim_defs::{JournalFault, NoMemory};
 use erim_io::{LoadFault, Sink, Store};
+use journal_bytes::{Journal, read_journal};
 use std::alloc::Global;
 
 /// The most bytes that an image may have: 8 MiB.
 const IMAGE_LIMIT: u64 = 8_388_608;
+
+/// The most bytes that a journal may have: those of 4,194,304 entries.
+const JOURNAL_LIMIT: u64 = 33_554_452;
 
 /// Loads a file of at most `limit` bytes. Where it is larger, the line is put, with the status.
 fn load<S: Store, K: Sink>(
@@ -44,13 +50,13 @@ fn load<S: Store, K: Sink>(
     }
 }
 
-/// The reply of a command that does nothing with its image, for the reason that the line says.
-pub fn image_refused<'a>(line: String) -> Reply<'a>
+/// The reply of a command that does nothing, for the reason that the line says.
+pub fn refused<'a>(status: Status, line: String) -> Reply<'a>
     ensures { (text : List ℕ) → string_bytes line ≡ error_line text
-        → reply_of result ≡ told ImageRefused text }
+        → reply_of result ≡ told status text }
 {
     Reply {
-        status: Status::ImageRefused,
+        status,
         text: line.into_bytes(),
         save: None,
     }
@@ -64,7 +70,7 @@ fn faulty_image<'a>(alloc: Global, fault: &ImageFault) -> Result<Reply<'a>, NoMe
     match fault {
         ImageFault::Memory => Err(NoMemory),
         _ => match fault_line(alloc, fault) {
-            Ok(line) => Ok(image_refused(line)),
+            Ok(line) => Ok(refused(Status::ImageRefused, line)),
             Err(NoMemory) => Err(NoMemory),
         },
     }
@@ -79,7 +85,8 @@ pub fn load_image<S: Store, K: Sink>(
     out: &mut K,
 ) -> Result<Image, u8>
     ensures { let old = world S.Store K.Sink store.old out.old in
-        Passes (with_image name.now) old (world S.Store K.Sink store.new out.new) result }
+        let new = world S.Store K.Sink store.new out.new in
+        Passes (with_file image_format name.now) old new result }
 {
     let refused = Status::ImageRefused;
     let line = b"erim: image too large\n";
@@ -90,5 +97,44 @@ pub fn load_image<S: Store, K: Sink>(
     match read_image(alloc, bytes.as_slice()) {
         Ok(image) => Ok(image),
         Err(fault) => Err(conclude(store, out, faulty_image(alloc, &fault))),
+    }
+}
+
+/// The reply of a command whose journal has this fault, unless it is want of memory.
+fn faulty_journal<'a>(alloc: Global, fault: &JournalFault) -> Result<Reply<'a>, NoMemory>
+    ensures { IfOk result (λ reply. (fault.now ≢ JournalFault.Memory)
+        × (reply_of reply ≡ told JournalRefused (journal_fault_text fault.now))) }
+{
+    match fault {
+        JournalFault::Memory => Err(NoMemory),
+        _ => match journal_fault_line(alloc, fault) {
+            Ok(line) => Ok(refused(Status::JournalRefused, line)),
+            Err(NoMemory) => Err(NoMemory),
+        },
+    }
+}
+
+/// Loads a journal and reads it. Where that fails, the call is at its end, and the program's answer
+/// is the error.
+pub fn load_journal<S: Store, K: Sink>(
+    alloc: Global,
+    name: &str,
+    store: &mut S,
+    out: &mut K,
+) -> Result<Journal, u8>
+    ensures form { IfOk result IsJournal }
+    ensures passes { let old = world S.Store K.Sink store.old out.old in
+        let new = world S.Store K.Sink store.new out.new in
+        Passes (with_file journal_format name.now) old new result }
+{
+    let refused = Status::JournalRefused;
+    let line = b"erim: journal too large\n";
+    let bytes = match load(alloc, name, JOURNAL_LIMIT, refused, line, store, out) {
+        Ok(bytes) => bytes,
+        Err(status) => return Err(status),
+    };
+    match read_journal(alloc, bytes.as_slice()) {
+        Ok(journal) => Ok(journal),
+        Err(fault) => Err(conclude(store, out, faulty_journal(alloc, &fault))),
     }
 }

@@ -15,9 +15,14 @@ pub enum Status {
     NotUnderstood = 2,
     /// The image is too large, isn't accepted, or can't start.
     ImageRefused = 3,
+    /// The journal is too large, isn't one, or its steps can't all be made.
+    JournalRefused = 6,
     /// The process hasn't ended, and its budget is spent.
     Spent = 7,
 }
+
+/// The program's answer where the words mean no command.
+pub const NOT_UNDERSTOOD: u8 = 2;
 
 /// The program's answer where a load, a save or a put failed.
 pub const FAILED: u8 = 4;

@@ -1,50 +1,16 @@
-//! The lines that the program prints.
+//! The lines that the program prints where it does nothing.
 
-ghost use Rattle.std.specs.Prelude.{◌≡◌, ◌++◌, OnOk, IfOk, codes};
+ghost use Rattle.std.specs.Prelude.{◌≡◌, ◌++◌, IfOk, codes};
 ghost use Rattle.std.specs.Fmt.{decimal};
 ghost use Rattle.std.specs.String.{string_bytes};
-ghost use Rattle.erim_defs.specs.Output.Texts.{kind_text, unsafe_line, fault_text, error_line};
-ghost use Rattle.erim_defs.specs.Output.Texts.{address_text, pkru_text};
-ghost use Rattle.erim_commands.specs.Replies.{start_text};
+ghost use Rattle.erim_defs.specs.Output.Texts.{error_line, fault_text, journal_fault_text};
+ghost use Rattle.erim_commands.specs.Replies.{break_text, start_text};
 
-use erim_defs::{Found, ImageFault, NoMemory, SeqKind};
+use erim_defs::{ImageFault, JournalFault, NoMemory};
 use erim_process::StartFault;
+use report_text::{address_text, kind_text};
 use std::alloc::{AllocError, Global};
-
-/// An address as it is printed.
-pub fn address_text(alloc: Global, address: u64) -> Result<String, AllocError>
-    ensures { IfOk result (λ text. string_bytes text ≡ address_text address) }
-{
-    format!(in alloc; "0x{address:012x}")
-}
-
-/// A PKRU as it is printed.
-pub fn pkru_text(alloc: Global, pkru: u32) -> Result<String, AllocError>
-    ensures { IfOk result (λ text. string_bytes text ≡ pkru_text pkru) }
-{
-    format!(in alloc; "0x{pkru:08x}")
-}
-
-/// The name of a kind of sequence.
-pub fn kind_text(kind: SeqKind) -> &'static str
-    ensures { result.now ≡ kind_text kind }
-{
-    match kind {
-        SeqKind::Wrpkru => "wrpkru",
-        SeqKind::Xrstor => "xrstor",
-    }
-}
-
-/// Appends the line that names an unsafe sequence.
-#[tactic(auto, unfolding(erim_defs::specs::Output::Texts::unsafe_line))]
-pub fn push_unsafe_line(text: &mut String, found: &Found) -> Result<(), NoMemory>
-    ensures { OnOk result (string_bytes text.new ≡ string_bytes text.old ++ unsafe_line found.now) }
-{
-    let kind = kind_text(found.kind);
-    let at = found.at;
-    writeln!(text, "unsafe {kind} at 0x{at:012x}")?;
-    Ok(())
-}
+use thread_runner::ReplayFault;
 
 /// The line that says what is wrong with one of the things of an image.
 #[tactic(auto, unfolding(erim_defs::specs::Output::Texts::error_line))]
@@ -122,4 +88,59 @@ pub fn start_line(alloc: Global, fault: &StartFault) -> Result<String, NoMemory>
     ensures { IfOk result (λ text. string_bytes text ≡ error_line (start_text fault.now)) }
 {
     Ok(named_start_fault(alloc, fault)?)
+}
+
+/// The line that names the fault of a journal, unless memory runs out.
+#[tactic(auto, unfolding(erim_defs::specs::Output::Texts::error_line))]
+fn named_journal_fault(alloc: Global, fault: &JournalFault) -> Result<String, AllocError>
+    ensures { IfOk result (λ text. string_bytes text ≡ error_line (journal_fault_text fault.now)) }
+{
+    match fault {
+        JournalFault::Short { at } => format!(in alloc; "erim: journal short at {at}\n"),
+        JournalFault::Magic => format!(in alloc; "erim: journal magic\n"),
+        JournalFault::Budget => format!(in alloc; "erim: journal budget\n"),
+        JournalFault::Frames => format!(in alloc; "erim: journal frames\n"),
+        JournalFault::Count => format!(in alloc; "erim: journal count\n"),
+        JournalFault::Trailing { at } => format!(in alloc; "erim: journal trailing at {at}\n"),
+        JournalFault::BadEntry { index } => format!(in alloc; "erim: journal entry {index}\n"),
+        // As above.
+        JournalFault::Memory => format!(in alloc; "erim: out of memory\n"),
+    }
+}
+
+/// The line that names the fault of a journal.
+pub fn journal_fault_line(alloc: Global, fault: &JournalFault) -> Result<String, NoMemory>
+    ensures { IfOk result (λ text. string_bytes text ≡ error_line (journal_fault_text fault.now)) }
+{
+    Ok(named_journal_fault(alloc, fault)?)
+}
+
+/// The line that says what is wrong with an entry of a journal.
+#[tactic(auto, unfolding(erim_defs::specs::Output::Texts::error_line))]
+fn entry_line(alloc: Global, index: u32, wrong: &str) -> Result<String, AllocError>
+    ensures { IfOk result (λ text. string_bytes text
+        ≡ error_line (codes "journal entry " ++ decimal index ++ wrong.now)) }
+{
+    format!(in alloc; "erim: journal entry {index}{wrong}\n")
+}
+
+/// The line that names the first step of a journal that can't be made, unless memory runs out.
+#[tactic(auto, unfolding(erim_defs::specs::Output::Texts::error_line))]
+fn named_break(alloc: Global, fault: &ReplayFault) -> Result<String, AllocError>
+    ensures { IfOk result (λ text. string_bytes text ≡ error_line (break_text fault.now)) }
+{
+    match fault {
+        ReplayFault::Start(fault) => named_start_fault(alloc, fault),
+        ReplayFault::PastEnd { index } => entry_line(alloc, *index, " past end"),
+        ReplayFault::PastBudget { index } => entry_line(alloc, *index, " past budget"),
+        ReplayFault::NotLive { index } => entry_line(alloc, *index, " not live"),
+        ReplayFault::Unfinished => format!(in alloc; "erim: journal unfinished\n"),
+    }
+}
+
+/// The line that names the first step of a journal that can't be made.
+pub fn break_line(alloc: Global, fault: &ReplayFault) -> Result<String, NoMemory>
+    ensures { IfOk result (λ text. string_bytes text ≡ error_line (break_text fault.now)) }
+{
+    Ok(named_break(alloc, fault)?)
 }

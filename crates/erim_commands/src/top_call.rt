@@ -3,6 +3,8 @@
 ghost use Rattle.std.specs.Prelude.{◌≡◌, Some, map};
 ghost use Rattle.std.specs.String.{string_bytes};
 ghost use Rattle.erim_defs.specs.Output.Words.{command_of};
+ghost use Rattle.erim_commands.specs.declared.reply.Status.TheVariants.{ImageRefused};
+ghost use Rattle.erim_commands.specs.declared.reply.Status.TheVariants.{JournalRefused};
 ghost use Rattle.erim_commands.specs.Commands.{plan_for};
 ghost use Rattle.erim_commands.specs.Delivery.{Carries, world};
 ghost use Rattle.erim_commands.specs.Promises.{IsComplete, TellsEnd, TellsFault, TellsFaultless};
@@ -11,8 +13,8 @@ ghost use Rattle.erim_commands.specs.Replies.{IsAnswer};
 
 use crate::commands::carry_out;
 use crate::delivery::put;
-use crate::reply::{Status, code_of};
-use crate::words::command_of;
+use crate::reply::{OUT_OF_MEMORY, Status, code_of};
+use command_words::command_of;
 use erim_io::{Sink, Store};
 use std::alloc::Global;
 
@@ -22,13 +24,14 @@ fn obey<S: Store, K: Sink>(alloc: Global, words: &[String], store: &mut S, out: 
         let new = world S.Store K.Sink store.new out.new in
         Carries IsAnswer (plan_for (command_of (map string_bytes words.now))) old new result }
 {
-    match command_of(words) {
-        Some(command) => carry_out(alloc, &command, store, out),
-        None => put(
+    match command_of(alloc, words) {
+        Ok(Some(command)) => carry_out(alloc, &command, store, out),
+        Ok(None) => put(
             out,
             code_of(Status::NotUnderstood),
             b"erim: words not understood\n",
         ),
+        Err(_no_memory) => OUT_OF_MEMORY,
     }
 }
 
@@ -36,7 +39,10 @@ fn obey<S: Store, K: Sink>(alloc: Global, words: &[String], store: &mut S, out: 
 ///
 /// The first word is the program's name. `inspect IMAGE` prints the unsafe list of the image code;
 /// `disasm IMAGE` prints the instructions of the executable segments' file parts;
-/// `run IMAGE JOURNAL` runs the image, saves the journal of the run and prints its report.
+/// `run IMAGE JOURNAL` runs the image, saves the journal of the run and prints its report;
+/// `replay IMAGE JOURNAL` runs it by a journal and prints the report; `gen SEED OUT` saves the image
+/// that is made from a seed; `soak SEED JOURNAL` runs that image, saves the journal of the run and
+/// prints its line.
 pub fn erim_plain<S: Store, K: Sink>(
     alloc: Global,
     words: &[String],
@@ -60,11 +66,17 @@ pub fn erim_plain<S: Store, K: Sink>(
     ensures words { TellsWords (command_of (map string_bytes words.now)) result }
 
     // 3 exactly where the image is above 8 MiB, has a fault, or is to be run and can't start.
-    ensures refusal { let old = world S.Store K.Sink store.old out.old in
-        TellsRefusal (command_of (map string_bytes words.now)) old result }
+    ensures image { let old = world S.Store K.Sink store.old out.old in
+        TellsRefusal ImageRefused (command_of (map string_bytes words.now)) old result }
+
+    // 6 exactly where the journal is too large, isn't one, or its steps can't all be made to an end.
+    ensures journal { let old = world S.Store K.Sink store.old out.old in
+        TellsRefusal JournalRefused (command_of (map string_bytes words.now)) old result }
 
     // Else: `inspect` told the unsafe list of the image code; `disasm` told its instructions; `run`
-    // saved the journal of a whole run of the machine and told the report of its replay.
+    // saved the journal of a whole run of the machine and told the report of its replay, which is
+    // what `replay` tells of that journal; `gen` saved the made image; `soak` did as `run` and told
+    // its line.
     ensures work { let command = command_of (map string_bytes words.now) in
         let old = world S.Store K.Sink store.old out.old in
         TellsWork command old (world S.Store K.Sink store.new out.new) result }

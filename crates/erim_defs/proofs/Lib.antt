@@ -63,3 +63,8 @@ pub mod LengthLemmas
 pub mod CheckEncodings
 pub mod SequenceEncodings
 pub mod Exact
+pub mod ResultLemmas
+pub mod LaidLemmas
+pub mod MadeLemmas
+mod MadeRows
+pub mod MadeStart

@@ -1,6 +1,6 @@
--- The calls on pages and protection keys on small states, computed. Linux on x86-64: mmap 9, mprotect
--- 10, munmap 11, pkey_mprotect 329, pkey_alloc 330, pkey_free 331; EPERM 1, EAGAIN 11, ENOMEM 12,
--- EINVAL 22, ENOSPC 28; the order of refusals is own.
+-- The calls on pages and protection keys on small states, computed. Linux on x86-64: mmap 9,
+-- mprotect 10, munmap 11, pkey_mprotect 329, pkey_alloc 330, pkey_free 331; EPERM 1, EAGAIN 11,
+-- ENOMEM 12, EINVAL 22, ENOSPC 28; the order of refusals is own.
 use Rattle.std.proofs.Common.{◌≡◌, ℕ, zero, suc, nat_lt, ◌==◌, not, Bool}
 use Rattle.std.proofs.Common.{List, [], ◌∷◌, map, Option, Some, None, true, false, refl}
 use Rattle.std.specs.Prelude.{if◌then◌else◌}
@@ -11,7 +11,8 @@ use Rattle.erim_defs.specs.declared.machine.Thread.{Thread}
 use Rattle.erim_defs.specs.Machine.CallResult.{Refusal, Answer, ThreadEnd, Quit, CallResult}
 use Rattle.erim_defs.specs.Machine.Count.{mapped, count_below}
 use Rattle.erim_defs.specs.Machine.MapCalls.{mmap_anywhere, mmap_at, range_of}
-use Rattle.erim_defs.specs.Machine.MapCalls.{any_below, is_pinned}
+use Rattle.erim_defs.specs.Machine.MapCalls.{is_pinned}
+use Rattle.erim_defs.specs.Machine.Least.{any_below}
 use Rattle.erim_defs.specs.Machine.Access.{opens}
 use Rattle.erim_defs.specs.Inspection.Image.{number_at, headers_from, headers, loadable_segments}
 use Rattle.erim_defs.specs.Inspection.Image.{notes_between, notes, records_from, records_in}
@@ -216,8 +217,8 @@ keys_of_pages :
 unfolding still_pages open_caller caller
 keys_of_pages = refl
 
--- a key that isn't taken is EINVAL, before protection; the trusted key is closed to a closed caller,
--- and so are its pages, also for key 0
+-- a key that isn't taken is EINVAL, before protection; the trusted key is closed to a closed
+-- caller, and so are its pages, also for key 0
 pkey_mprotect_refused :
     pkey_mprotect 0x403000 4096 1 2 ∷ pkey_mprotect 0x403000 4096 1 16
     ∷ pkey_mprotect 0x402000 4096 1 2 ∷ pkey_mprotect 0x403000 4096 1 1

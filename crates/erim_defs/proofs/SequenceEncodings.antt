@@ -31,8 +31,8 @@ use Rattle.erim_defs.specs.Encoding.OpcodeTable.{Ask, Exactly, Memory, in_line, 
 use Rattle.erim_defs.specs.Encoding.Forms.{arithmetic_of, move_of, flow_of, exchange_of, system_of}
 use Rattle.erim_defs.specs.Encoding.Forms.{insn_of}
 use Rattle.erim_defs.specs.Encoding.Grammar.{at_line, InsnAndSizes, insn_and_sizes, Encodes, In}
-use Rattle.erim_defs.specs.Encoding.Grammar.{Rest, After, Opcode, Escaped, admits, lead_of, f3_bytes}
-use Rattle.erim_defs.specs.Encoding.Grammar.{rex_bytes}
+use Rattle.erim_defs.specs.Encoding.Grammar.{Rest, After, Opcode, Escaped, admits, lead_of}
+use Rattle.erim_defs.specs.Encoding.Grammar.{f3_bytes, rex_bytes}
 use Rattle.erim_defs.proofs.PartLemmas.{when_to}
 use Rattle.erim_defs.proofs.LineLemmas.{and_true}
 use Rattle.erim_defs.proofs.FieldLemmas.{body_says}

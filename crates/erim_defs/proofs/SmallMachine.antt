@@ -34,7 +34,8 @@ use Rattle.erim_defs.specs.Machine.Count.{count_below}
 use Rattle.erim_defs.specs.Machine.HeapCalls.{talloc_result, tfree_result, with_block}
 use Rattle.erim_defs.specs.Machine.HeapCalls.{without_block}
 use Rattle.erim_defs.specs.Machine.ThreadCalls.{clone_result, gettid_result, sched_yield_result}
-use Rattle.erim_defs.specs.Machine.MapCalls.{any_below, least_below, is_pinned, mmap_result}
+use Rattle.erim_defs.specs.Machine.MapCalls.{is_pinned, mmap_result}
+use Rattle.erim_defs.specs.Machine.Least.{any_below, least_below}
 use Rattle.erim_defs.specs.Machine.MapCalls.{munmap_result, mprotect_result}
 use Rattle.erim_defs.specs.Machine.MapCalls.{pkey_mprotect_result, pkey_alloc_result}
 use Rattle.erim_defs.specs.Machine.MapCalls.{pkey_free_result, with_key_rights}

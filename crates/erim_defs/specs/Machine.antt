@@ -10,6 +10,7 @@ pub mod Meaning
 pub mod State
 pub mod CallResult
 pub mod Start
+pub mod Least
 pub mod MapCalls
 pub mod ThreadCalls
 pub mod HeapCalls

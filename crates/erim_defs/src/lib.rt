@@ -10,6 +10,7 @@
 
 pub mod elf;
 mod fault;
+pub mod field;
 mod found;
 pub mod grammar;
 mod insn;
@@ -29,7 +30,7 @@ pub use found::{Found, SeqKind};
 pub use insn::{
     AluOp, Base, By, Decoded, FetchOutcome, Insn, Mem, Place, ShiftOp, Src, UnaryOp, Width,
 };
-pub use journal::one_journal;
+pub use journal::{JournalFault, one_journal};
 pub use machine::{Access, Cause, End, Entry, Escape, Flags, Keys, Outcome, Rights, Thread};
 pub use memory::NoMemory;
 pub use segment::Segment;

@@ -3,6 +3,7 @@
 
 ghost use Rattle.std.specs.Prelude.{◌≡◌};
 ghost use Rattle.erim_defs.specs.Machine.Pages.{asks_exec, asks_write, published_rights};
+ghost use Rattle.erim_defs.specs.Machine.Start.{unpublished_rights};
 
 use crate::found::Found;
 
@@ -34,6 +35,19 @@ impl Rights {
         ensures { result ≡ asks_exec self.now.asked }
     {
         self.asked / 4 % 2 == 1
+    }
+
+    /// The rights of a page that asks these protection bits, below 8, and isn't published.
+    pub fn unpublished(asked: u8, key: u8) -> Rights
+        ensures { result ≡ unpublished_rights asked key }
+    {
+        Rights {
+            read: asked != 0,
+            write: asked / 2 % 2 == 1,
+            exec: false,
+            asked,
+            key,
+        }
     }
 
     /// The rights of the page once it is published: it can be fetched, and isn't writable.

@@ -1,4 +1,5 @@
-//! The numbers of registers that the machine names (SDM volume 2, "Registers used in instructions").
+//! The numbers of registers that the machine names (SDM volume 2, "Registers used in
+//! instructions").
 
 /// The number of a call, and its result; in its low half, PKRU for WRPKRU.
 pub const RAX: u8 = 0;

@@ -20,9 +20,11 @@ use Rattle.erim_defs.specs.Machine.Start.{first_state, first_rights, first_threa
 use Rattle.erim_defs.specs.Machine.Start.{trusted_unsafe, frames_needed}
 use Rattle.erim_process.specs.declared.start_fault.StartFault.{StartFault}
 use Rattle.erim_process.specs.StartFaults.{start_fault, start_if, if_trusted}
-use Rattle.erim_defs.specs.Inspection.Unsafe.{IsFirstUnsafe, first_unsafe}
+use Rattle.erim_defs.specs.Inspection.Unsafe.{IsFirstUnsafe, first_unsafe, top}
 use Rattle.erim_defs.specs.Inspection.Image.{text_of, image_code, image_trust, trusted_code}
-use Rattle.erim_defs.proofs.UnsafeLemmas.{first_is}
+use Rattle.erim_defs.proofs.UnsafeLemmas.{first_is, none_first_below}
+use Rattle.erim_defs.specs.Inspection.Safe.{unsafe_at}
+use Rattle.erim_defs.specs.Machine.Isolation.{IsSafeCode, IsStartable}
 
 -- keys 0 and 1 are bits 0 and 1 of 3
 first_keys : (k : ℕ) → has_bit 3 k ≡ ltb k 2
@@ -116,6 +118,20 @@ start_room setup h =
     let second = none_second (if_trusted (trusted_unsafe setup.image)) _ h in
     ltb-false setup.frames (frames_needed setup.image)
     (if_none _ _ second)
+
+safe_trusted : (image : List ℕ) → IsSafeCode (image_trust image) (trusted_code image)
+    → trusted_unsafe image ≡ None
+unfolding trusted_unsafe first_unsafe
+safe_trusted image safe =
+    none_first_below top (unsafe_at (image_trust image) (trusted_code image)) (λ a low. safe a)
+
+-- nothing keeps a setup that can be started from starting
+pub start_none : (setup : Setup) → IsStartable setup → start_fault setup ≡ None
+unfolding start_fault
+start_none setup h =
+    let room : ltb setup.frames (frames_needed setup.image) ≡ false =
+    le-ltb setup.frames (frames_needed setup.image) h.room in
+    rw (safe_trusted setup.image h.safe, room) refl
 
 -- its thread is live
 pub start_live : (setup : Setup) (s : State) → s ≡ first_state setup → any_live s.threads ≡ true

@@ -36,6 +36,12 @@ Becomes g trust old new f =
     → image_heaps setup.image ≡ old.heap.heaps
     → machine_state g setup new ≡ f (machine_state g setup old)
 
+-- the steps, the ranges of trusted heap and the frames stay
+pub record KeepsLimits {P : Type 0} (g : Ghosts P) (old new : Machine P) : Type 0 where
+  pub steps : new.steps ≡ old.steps
+  pub heaps : new.heap.heaps ≡ old.heap.heaps
+  pub frames : g.frames new.pages ≡ g.frames old.pages
+
 -- thread t is another from now on, and the first escape is kept
 abbrev pub settled : ℕ → Thread → Bool → State → State
 settled t thread escaped s = record s {

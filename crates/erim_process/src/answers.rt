@@ -3,7 +3,7 @@
 ghost use Rattle.std.specs.Prelude.{◌≡◌, ◌<◌, ◌-◌, ◌^◌, length, false, None, IfErr};
 ghost use Rattle.erim_defs.specs.Machine.Registers.{with_register};
 ghost use Rattle.erim_defs.specs.Machine.Step.{after_move};
-ghost use Rattle.erim_process.specs.Machine.{Becomes, returned};
+ghost use Rattle.erim_process.specs.Machine.{Becomes, KeepsLimits, returned};
 
 use crate::machine::Machine;
 use erim_defs::register::RAX;
@@ -40,9 +40,7 @@ impl<P: Pages> Machine<P> {
           executed = None;
           free = false;
         })) }
-        ensures steps { self.new.steps ≡ self.old.steps }
-        ensures heaps { self.new.heap.heaps ≡ self.old.heap.heaps }
-        ensures frames { P.frames self.new.pages ≡ P.frames self.old.pages }
+        ensures kept { KeepsLimits P.Memory self.old self.new }
     {
         let mut after = *new;
         set_register(&mut after, RAX, value);

@@ -3,7 +3,7 @@
 ghost use Rattle.std.specs.Prelude.{◌≡◌, ◌<◌, length};
 ghost use Rattle.erim_defs.specs.Machine.Calls.{call_result};
 ghost use Rattle.erim_defs.specs.Machine.Step.{flags_word, after_call, behind_syscall};
-ghost use Rattle.erim_process.specs.Machine.{Becomes};
+ghost use Rattle.erim_process.specs.Machine.{Becomes, KeepsLimits};
 
 use crate::answers::refusal;
 use crate::machine::Machine;
@@ -60,9 +60,7 @@ impl<P: Pages> Machine<P> {
         ensures state { Becomes P.Memory trust.now self.old self.new
             (λ s. after_call (call_result s t new.now) (record { number = t; thread = old.now })
             new.now s) }
-        ensures steps { self.new.steps ≡ self.old.steps }
-        ensures heaps { self.new.heap.heaps ≡ self.old.heap.heaps }
-        ensures frames { P.frames self.new.pages ≡ P.frames self.old.pages }
+        ensures kept { KeepsLimits P.Memory self.old self.new }
     {
         match register(new, RAX) {
             SYS_WRITE => self.write(trust, t, old, new),

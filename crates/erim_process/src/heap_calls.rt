@@ -4,7 +4,7 @@ ghost use Rattle.std.specs.Prelude.{◌≡◌, ◌<◌, length};
 ghost use Rattle.erim_defs.specs.Machine.HeapCalls.{talloc_result, tfree_result};
 ghost use Rattle.erim_defs.specs.Machine.Registers.{register};
 ghost use Rattle.erim_defs.specs.Machine.Step.{after_call};
-ghost use Rattle.erim_process.specs.Machine.{Becomes};
+ghost use Rattle.erim_process.specs.Machine.{Becomes, KeepsLimits};
 
 use crate::answers::returned;
 use crate::machine::Machine;
@@ -22,9 +22,7 @@ impl<P: Pages> Machine<P> {
         ensures state { Becomes P.Memory trust.now self.old self.new
             (λ s. after_call (talloc_result s new.now (register new.now 7))
             (record { number = t; thread = old.now }) new.now s) }
-        ensures steps { self.new.steps ≡ self.old.steps }
-        ensures heaps { self.new.heap.heaps ≡ self.old.heap.heaps }
-        ensures frames { P.frames self.new.pages ≡ P.frames self.old.pages }
+        ensures kept { KeepsLimits P.Memory self.old self.new }
     {
         let len = register(new, RDI);
         let outcome = self.heap.talloc(opens(new.pkru, TRUSTED_KEY), len);
@@ -37,9 +35,7 @@ impl<P: Pages> Machine<P> {
         ensures state { Becomes P.Memory trust.now self.old self.new
             (λ s. after_call (tfree_result s new.now (register new.now 7))
             (record { number = t; thread = old.now }) new.now s) }
-        ensures steps { self.new.steps ≡ self.old.steps }
-        ensures heaps { self.new.heap.heaps ≡ self.old.heap.heaps }
-        ensures frames { P.frames self.new.pages ≡ P.frames self.old.pages }
+        ensures kept { KeepsLimits P.Memory self.old self.new }
     {
         let addr = register(new, RDI);
         let outcome = self.heap.tfree(opens(new.pkru, TRUSTED_KEY), addr);

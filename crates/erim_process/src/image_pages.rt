@@ -15,10 +15,10 @@ ghost use Rattle.erim_process.specs.ImagePages.{AllUnmapped, bytes_over, page_ri
 ghost use Rattle.erim_process.specs.ImagePages.{rights_over, segment_rights};
 
 use crate::image_pages::page::load_page;
-use crate::image_pages::rights::{asked_of, page_rights, unpublished_rights};
+use crate::image_pages::rights::{asked_of, page_rights};
 use erim_defs::linux::{PROT_READ, PROT_WRITE};
 use erim_defs::page::{PLAIN_KEY, STACK_END_PAGE, STACK_PAGE};
-use erim_defs::{Segment, Span, Trust};
+use erim_defs::{Rights, Segment, Span, Trust};
 use page_store::{Memory, Pages};
 
 // What is asked of the stack's pages: PROT_READ and PROT_WRITE.
@@ -99,7 +99,7 @@ fn map_stack<P: Pages>(pages: &mut P)
     ensures frames { P.frames pages.new ≡ P.frames pages.old }
 {
     for page in STACK_PAGE..STACK_END_PAGE {
-        pages.map_zero(page, unpublished_rights(STACK_ASKED, PLAIN_KEY));
+        pages.map_zero(page, Rights::unpublished(STACK_ASKED, PLAIN_KEY));
     }
 }
 

@@ -4,7 +4,7 @@ ghost use Rattle.std.specs.Prelude.{◌≡◌, ◌<◌, length};
 ghost use Rattle.erim_defs.specs.Machine.MapCalls.{pkey_alloc_result, pkey_free_result};
 ghost use Rattle.erim_defs.specs.Machine.Registers.{register};
 ghost use Rattle.erim_defs.specs.Machine.Step.{after_call};
-ghost use Rattle.erim_process.specs.Machine.{Becomes};
+ghost use Rattle.erim_process.specs.Machine.{Becomes, KeepsLimits};
 
 use crate::answers::returned;
 use crate::machine::Machine;
@@ -21,9 +21,7 @@ impl<P: Pages> Machine<P> {
         ensures state { Becomes P.Memory trust.now self.old self.new
             (λ s. after_call (pkey_alloc_result s new.now (register new.now 7)
             (register new.now 6)) (record { number = t; thread = old.now }) new.now s) }
-        ensures steps { self.new.steps ≡ self.old.steps }
-        ensures heaps { self.new.heap.heaps ≡ self.old.heap.heaps }
-        ensures frames { P.frames self.new.pages ≡ P.frames self.old.pages }
+        ensures kept { KeepsLimits P.Memory self.old self.new }
     {
         let mut pkru = new.pkru;
         let (flags, rights) = (register(new, RDI), register(new, RSI));
@@ -37,9 +35,7 @@ impl<P: Pages> Machine<P> {
         ensures state { Becomes P.Memory trust.now self.old self.new
             (λ s. after_call (pkey_free_result s new.now (register new.now 7))
             (record { number = t; thread = old.now }) new.now s) }
-        ensures steps { self.new.steps ≡ self.old.steps }
-        ensures heaps { self.new.heap.heaps ≡ self.old.heap.heaps }
-        ensures frames { P.frames self.new.pages ≡ P.frames self.old.pages }
+        ensures kept { KeepsLimits P.Memory self.old self.new }
     {
         let outcome = pkey_free(&mut self.keys, register(new, RDI));
         self.answer(trust, t, old, new, returned(outcome));

@@ -3,7 +3,7 @@
 ghost use Rattle.std.specs.Prelude.{◌≡◌, ◌<◌, length};
 ghost use Rattle.erim_defs.specs.Machine.State.{Setup};
 ghost use Rattle.erim_defs.specs.Machine.Step.{after_move};
-ghost use Rattle.erim_process.specs.Machine.{Becomes, machine_state, settled};
+ghost use Rattle.erim_process.specs.Machine.{Becomes, KeepsLimits, machine_state, settled};
 
 use crate::machine::Machine;
 use erim_defs::{Escape, Found, Thread, Trust};
@@ -16,9 +16,7 @@ impl<P: Pages> Machine<P> {
         requires there { t < length self.old.threads }
         ensures state { (setup : Setup) → machine_state P.Memory setup self.new
             ≡ settled t new.now escaped (machine_state P.Memory setup self.old) }
-        ensures steps { self.new.steps ≡ self.old.steps }
-        ensures heaps { self.new.heap.heaps ≡ self.old.heap.heaps }
-        ensures frames { P.frames self.new.pages ≡ P.frames self.old.pages }
+        ensures kept { KeepsLimits P.Memory self.old self.new }
     {
         if escaped && self.escape.is_none() {
             self.escape = Some(Escape {
@@ -47,9 +45,7 @@ impl<P: Pages> Machine<P> {
           executed = executed;
           free = free;
         })) }
-        ensures steps { self.new.steps ≡ self.old.steps }
-        ensures heaps { self.new.heap.heaps ≡ self.old.heap.heaps }
-        ensures frames { P.frames self.new.pages ≡ P.frames self.old.pages }
+        ensures kept { KeepsLimits P.Memory self.old self.new }
     {
         let mut after = *new;
         set_origin(trust, executed, &mut after);

@@ -5,7 +5,7 @@ ghost use Rattle.erim_defs.specs.Machine.MapCalls.{mmap_result, mprotect_result,
 ghost use Rattle.erim_defs.specs.Machine.MapCalls.{pkey_mprotect_result};
 ghost use Rattle.erim_defs.specs.Machine.Registers.{register};
 ghost use Rattle.erim_defs.specs.Machine.Step.{after_call};
-ghost use Rattle.erim_process.specs.Machine.{Becomes};
+ghost use Rattle.erim_process.specs.Machine.{Becomes, KeepsLimits};
 
 use crate::answers::returned;
 use crate::machine::Machine;
@@ -22,9 +22,7 @@ impl<P: Pages> Machine<P> {
             (λ s. after_call (mmap_result s new.now (register new.now 7) (register new.now 6)
             (register new.now 2) (register new.now 10))
             (record { number = t; thread = old.now }) new.now s) }
-        ensures steps { self.new.steps ≡ self.old.steps }
-        ensures heaps { self.new.heap.heaps ≡ self.old.heap.heaps }
-        ensures frames { P.frames self.new.pages ≡ P.frames self.old.pages }
+        ensures kept { KeepsLimits P.Memory self.old self.new }
     {
         let (addr, len) = (register(new, RDI), register(new, RSI));
         let (prot, flags) = (register(new, RDX), register(new, R10));
@@ -47,9 +45,7 @@ impl<P: Pages> Machine<P> {
         ensures state { Becomes P.Memory trust.now self.old self.new
             (λ s. after_call (munmap_result s new.now (register new.now 7) (register new.now 6))
             (record { number = t; thread = old.now }) new.now s) }
-        ensures steps { self.new.steps ≡ self.old.steps }
-        ensures heaps { self.new.heap.heaps ≡ self.old.heap.heaps }
-        ensures frames { P.frames self.new.pages ≡ P.frames self.old.pages }
+        ensures kept { KeepsLimits P.Memory self.old self.new }
     {
         let (addr, len) = (register(new, RDI), register(new, RSI));
         let threads = self.threads.list();
@@ -63,9 +59,7 @@ impl<P: Pages> Machine<P> {
         ensures state { Becomes P.Memory trust.now self.old self.new
             (λ s. after_call (mprotect_result s new.now (register new.now 7) (register new.now 6)
             (register new.now 2)) (record { number = t; thread = old.now }) new.now s) }
-        ensures steps { self.new.steps ≡ self.old.steps }
-        ensures heaps { self.new.heap.heaps ≡ self.old.heap.heaps }
-        ensures frames { P.frames self.new.pages ≡ P.frames self.old.pages }
+        ensures kept { KeepsLimits P.Memory self.old self.new }
     {
         let (addr, len, prot) = (register(new, RDI), register(new, RSI), register(new, RDX));
         let threads = self.threads.list();
@@ -88,9 +82,7 @@ impl<P: Pages> Machine<P> {
             (λ s. after_call (pkey_mprotect_result s new.now (register new.now 7)
             (register new.now 6) (register new.now 2) (register new.now 10))
             (record { number = t; thread = old.now }) new.now s) }
-        ensures steps { self.new.steps ≡ self.old.steps }
-        ensures heaps { self.new.heap.heaps ≡ self.old.heap.heaps }
-        ensures frames { P.frames self.new.pages ≡ P.frames self.old.pages }
+        ensures kept { KeepsLimits P.Memory self.old self.new }
     {
         let (addr, len) = (register(new, RDI), register(new, RSI));
         let (prot, key) = (register(new, RDX), register(new, R10));

@@ -3,7 +3,8 @@
 ghost use Rattle.std.specs.Prelude.{◌≡◌, ◌≤◌, ◌⊎◌, ◌&&◌, [], Some, None, IfOk, MatchResult, IsTrue};
 ghost use Rattle.std.specs.Prelude.{true};
 ghost use Rattle.erim_defs.specs.Encoding.Parts.{AreBytes};
-ghost use Rattle.erim_defs.specs.Inspection.Image.{IsAccepted, entry_point, image_heaps, image_trust};
+ghost use Rattle.erim_defs.specs.Inspection.Image.{IsAccepted, entry_point, image_heaps};
+ghost use Rattle.erim_defs.specs.Inspection.Image.{image_trust};
 ghost use Rattle.erim_defs.specs.Machine.State.{Setup as Given};
 ghost use Rattle.erim_defs.specs.Machine.Start.{first_thread, frames_needed, first_state};
 ghost use Rattle.erim_process.specs.Machine.{machine_state};

@@ -16,7 +16,7 @@ ghost use Rattle.erim_defs.specs.Machine.State.{Setup, code, trust_of};
 ghost use Rattle.erim_defs.specs.Machine.Step.{step, after_fetch, after_instruction};
 ghost use Rattle.erim_defs.specs.Machine.Step.{after_exec_fault, after_verdict, fetch};
 ghost use Rattle.page_store.specs.Answers.{rights_in};
-ghost use Rattle.erim_process.specs.Machine.{Becomes, machine_state, IsBounded};
+ghost use Rattle.erim_process.specs.Machine.{Becomes, IsBounded, KeepsLimits, machine_state};
 ghost use Rattle.erim_process.specs.StepFacts.{answer};
 
 use crate::calls::behind_syscall;
@@ -49,9 +49,7 @@ impl<P: Pages> Machine<P> {
         ensures state { Becomes P.Memory trust.now self.old self.new
             (λ s. after_exec_fault (s.rights (addr / 4096)) addr
             (record { number = t; thread = thread.now }) s) }
-        ensures steps { self.new.steps ≡ self.old.steps }
-        ensures heaps { self.new.heap.heaps ≡ self.old.heap.heaps }
-        ensures frames { P.frames self.new.pages ≡ P.frames self.old.pages }
+        ensures kept { KeepsLimits P.Memory self.old self.new }
     {
         let page = addr / 4096;
         match self.pages.rights(page) {
@@ -72,9 +70,7 @@ impl<P: Pages> Machine<P> {
             → Becomes P.Memory trust.now self.old self.new (λ s. after_verdict
             (first_unsafe (trust_of s) (code_with s.rights s.bytes page)) page rights
             (record { number = t; thread = thread }) s) }
-        ensures steps { self.new.steps ≡ self.old.steps }
-        ensures heaps { self.new.heap.heaps ≡ self.old.heap.heaps }
-        ensures frames { P.frames self.new.pages ≡ P.frames self.old.pages }
+        ensures kept { KeepsLimits P.Memory self.old self.new }
     {
         match verdict(&self.pages, page, trust) {
             Verdict::Publish => publish(&mut self.pages, page),
@@ -97,9 +93,7 @@ impl<P: Pages> Machine<P> {
             thread.now.pkru thread.now.rip)
             (record { insn = insn.now; len = len; skip = skip })
             (record { number = t; thread = thread.now }) s) }
-        ensures steps { self.new.steps ≡ self.old.steps }
-        ensures heaps { self.new.heap.heaps ≡ self.old.heap.heaps }
-        ensures frames { P.frames self.new.pages ≡ P.frames self.old.pages }
+        ensures kept { KeepsLimits P.Memory self.old self.new }
     {
         let mut new = *thread;
         match exec(insn, len, skip, trust, &mut new, &mut self.pages) {
@@ -119,9 +113,7 @@ impl<P: Pages> Machine<P> {
         ensures state { Becomes P.Memory trust.now self.old self.new
             (λ s. after_fetch (fetch (code s) thread.now.rip)
             (record { number = t; thread = thread.now }) s) }
-        ensures steps { self.new.steps ≡ self.old.steps }
-        ensures heaps { self.new.heap.heaps ≡ self.old.heap.heaps }
-        ensures frames { P.frames self.new.pages ≡ P.frames self.old.pages }
+        ensures kept { KeepsLimits P.Memory self.old self.new }
     {
         match fetch(&mut self.pages, thread.rip) {
             FetchOutcome::Runs { insn, len, skip } => self.run(trust, t, thread, &insn, len, skip),
@@ -139,7 +131,8 @@ impl<P: Pages> Machine<P> {
             → result ≡ answer (machine_state P.Memory setup self.old) t }
         ensures made { (setup : Setup) → setup.budget ≡ budget → image_trust setup.image ≡ trust.now
             → setup.frames ≡ P.frames self.old.pages
-            → image_heaps setup.image ≡ self.old.heap.heaps → result ≡ Stepped.Made → step t (machine_state P.Memory setup self.old)
+            → image_heaps setup.image ≡ self.old.heap.heaps → result ≡ Stepped.Made
+            → step t (machine_state P.Memory setup self.old)
             ≡ Some (machine_state P.Memory setup self.new) }
         ensures there { result ≡ Stepped.Made → t < 16 }
         ensures steps { result ≡ Stepped.Made

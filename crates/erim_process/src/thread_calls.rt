@@ -10,7 +10,7 @@ ghost use Rattle.erim_defs.specs.Machine.Registers.{register};
 ghost use Rattle.erim_defs.specs.Machine.Step.{after_call};
 ghost use Rattle.erim_defs.specs.Machine.ThreadCalls.{clone_result, gettid_result};
 ghost use Rattle.erim_defs.specs.Machine.ThreadCalls.{sched_yield_result};
-ghost use Rattle.erim_process.specs.Machine.{Becomes};
+ghost use Rattle.erim_process.specs.Machine.{Becomes, KeepsLimits};
 
 use crate::answers::returned;
 use crate::machine::Machine;
@@ -34,9 +34,7 @@ impl<P: Pages> Machine<P> {
         ensures state { Becomes P.Memory trust.now self.old self.new
             (λ s. after_call (write_result s new.now (register new.now 7) (register new.now 6)
             (register new.now 2)) (record { number = t; thread = old.now }) new.now s) }
-        ensures steps { self.new.steps ≡ self.old.steps }
-        ensures heaps { self.new.heap.heaps ≡ self.old.heap.heaps }
-        ensures frames { P.frames self.new.pages ≡ P.frames self.old.pages }
+        ensures kept { KeepsLimits P.Memory self.old self.new }
     {
         let (fd, buf, n) = (register(new, RDI), register(new, RSI), register(new, RDX));
         let outcome = write_out(&mut self.pages, &mut self.output, new.pkru, fd, buf, n);
@@ -49,9 +47,7 @@ impl<P: Pages> Machine<P> {
         ensures state { Becomes P.Memory trust.now self.old self.new
             (λ s. after_call (clone_result s new.now (register new.now 7) (register new.now 6))
             (record { number = t; thread = old.now }) new.now s) }
-        ensures steps { self.new.steps ≡ self.old.steps }
-        ensures heaps { self.new.heap.heaps ≡ self.old.heap.heaps }
-        ensures frames { P.frames self.new.pages ≡ P.frames self.old.pages }
+        ensures kept { KeepsLimits P.Memory self.old self.new }
     {
         let (flags, stack) = (register(new, RDI), register(new, RSI));
         let outcome = clone_thread(&mut self.threads, trust, new, flags, stack);
@@ -65,9 +61,7 @@ impl<P: Pages> Machine<P> {
         ensures state { Becomes P.Memory trust.now self.old self.new
             (λ s. after_call (gettid_result s t new.now) (record { number = t; thread = old.now })
             new.now s) }
-        ensures steps { self.new.steps ≡ self.old.steps }
-        ensures heaps { self.new.heap.heaps ≡ self.old.heap.heaps }
-        ensures frames { P.frames self.new.pages ≡ P.frames self.old.pages }
+        ensures kept { KeepsLimits P.Memory self.old self.new }
     {
         self.answer(trust, t, old, new, u64::from(t) + 1);
     }
@@ -79,9 +73,7 @@ impl<P: Pages> Machine<P> {
         ensures state { Becomes P.Memory trust.now self.old self.new
             (λ s. after_call (sched_yield_result s new.now)
             (record { number = t; thread = old.now }) new.now s) }
-        ensures steps { self.new.steps ≡ self.old.steps }
-        ensures heaps { self.new.heap.heaps ≡ self.old.heap.heaps }
-        ensures frames { P.frames self.new.pages ≡ P.frames self.old.pages }
+        ensures kept { KeepsLimits P.Memory self.old self.new }
     {
         self.answer(trust, t, old, new, 0);
     }
@@ -101,9 +93,7 @@ impl<P: Pages> Machine<P> {
         ensures state { Becomes P.Memory trust.now self.old self.new
             (after_call (ThreadEnd (register new.now 7 % 256))
             (record { number = t; thread = old.now }) new.now) }
-        ensures steps { self.new.steps ≡ self.old.steps }
-        ensures heaps { self.new.heap.heaps ≡ self.old.heap.heaps }
-        ensures frames { P.frames self.new.pages ≡ P.frames self.old.pages }
+        ensures kept { KeepsLimits P.Memory self.old self.new }
     {
         let ended = Thread {
             live: false,
@@ -121,9 +111,7 @@ impl<P: Pages> Machine<P> {
         ensures state { Becomes P.Memory trust.now self.old self.new
             (after_call (Quit (register new.now 7 % 256)) (record { number = t; thread = old.now })
             new.now) }
-        ensures steps { self.new.steps ≡ self.old.steps }
-        ensures heaps { self.new.heap.heaps ≡ self.old.heap.heaps }
-        ensures frames { P.frames self.new.pages ≡ P.frames self.old.pages }
+        ensures kept { KeepsLimits P.Memory self.old self.new }
     {
         self.go(trust, t, old, new, None, false);
         self.leave(new);

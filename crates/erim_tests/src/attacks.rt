@@ -3,7 +3,7 @@
 //! Rows as in `running`. The attacks on ERIM's own monitor, on signals and on the kernel can't be
 //! expressed: this machine has none of them.
 
-use crate::running::check_rows;
+use crate::run_rows::check_rows;
 
 /// Trusted data at 0x404000 holds ABCDEFGH, which the program wants to write out; the gates and the
 /// checks are the true ones unless a row says otherwise.

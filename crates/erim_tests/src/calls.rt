@@ -1,6 +1,6 @@
 //! Tables of system calls: a program makes the calls of a table and writes out their answers.
 
-use crate::calling::{sink, store, words};
+use crate::calling::{check_replay, sink, store, words};
 use crate::laying::laid;
 use crate::rows::{cell, number};
 use erim_commands::erim_plain;
@@ -98,4 +98,5 @@ fn check_output(rt: &impl Abort, alloc: Global, image: Vec<u8>, bytes: &[u8], wh
     let status = erim_plain(alloc, words.as_slice(), &mut held, &mut out);
     assert!(rt; status == 0, "{what}");
     assert!(rt; out.written().starts_with(text.as_slice()), "{what}");
+    check_replay(rt, alloc, &mut held, status, out.written());
 }

@@ -11,24 +11,24 @@ const INSPECT: &str = "erim inspect image";
 
 const RUN: &str = "erim run image journal";
 
-/// Lines of words that mean no command; the first is empty.
+const REPLAY: &str = "erim replay image journal";
+
+const GEN: &str = "erim gen 0 image";
+
+const SOAK: &str = "erim soak 0 journal";
+
+/// Lines of words that mean no command; the first is empty. The tables of `words` have more.
 const NO_COMMAND: &str = "
 
 erim
 erim --help
 erim inspect
-erim inspect -- image
 erim inspect -image
-erim inspect image image
-erim Inspect image
-erim disasm
-erim disasm image journal
-erim run
 erim run image
-erim run image journal more
-erim run image -journal
-erim run -- image journal
-erim run image journal --steps 1";
+erim run image journal --workers 9
+erim run image journal --steps 1 --steps 2
+erim replay image journal --steps 1
+erim soak 18446744073709551616 journal";
 
 #[test]
 fn words_that_mean_no_command(rt: HostRuntime) {
@@ -54,6 +54,10 @@ fn loads_and_saves_that_fail(rt: HostRuntime) {
     check_failing(&rt, rt.alloc(), INSPECT, 0, "erim: load failed\n");
     check_failing(&rt, rt.alloc(), RUN, 0, "erim: load failed\n");
     check_failing(&rt, rt.alloc(), RUN, 1, "erim: save failed\n");
+    check_failing(&rt, rt.alloc(), REPLAY, 0, "erim: load failed\n");
+    check_failing(&rt, rt.alloc(), REPLAY, 1, "erim: load failed\n");
+    check_failing(&rt, rt.alloc(), GEN, 0, "erim: save failed\n");
+    check_failing(&rt, rt.alloc(), SOAK, 0, "erim: save failed\n");
 }
 
 /// Calls the program over an output of so much room, of which these puts fail. What was to be saved
@@ -74,7 +78,7 @@ fn check_put(
     assert!(rt; ended == 4);
     assert!(rt; out.written() == text.as_bytes());
     let mut journal = Vec::new(alloc);
-    let saved = held.load("journal", 99, &mut journal).is_ok();
+    let saved = held.load("journal", 999, &mut journal).is_ok();
     assert!(rt; saved == (journal_length > 0) && journal.len() == journal_length);
 }
 
@@ -84,4 +88,7 @@ fn puts_that_fail(rt: HostRuntime) {
     check_put(&rt, rt.alloc(), INSPECT, &[], 6, "unsafe", 0);
     check_put(&rt, rt.alloc(), RUN, &[0], 4096, "", 52);
     check_put(&rt, rt.alloc(), RUN, &[], 9, "output 0\n", 52);
+    check_put(&rt, rt.alloc(), GEN, &[], 5, "gen 0", 0);
+    check_put(&rt, rt.alloc(), SOAK, &[0], 4096, "", 324);
+    check_put(&rt, rt.alloc(), SOAK, &[], 6, "soak 0", 324);
 }

@@ -1,7 +1,7 @@
 //! Sequences that begin one, two or three bytes before the end of a page: by `inspect`, and by
 //! `run` in either order of publication.
 
-use crate::calling::{check_call, store};
+use crate::calling::{check_call, check_replay, store};
 use crate::laying::laid;
 use crate::rows::{lines, word};
 use std::alloc::Global;
@@ -90,6 +90,7 @@ fn check_image(
         status,
         report,
     );
+    check_replay(rt, alloc, &mut held, status, report.as_bytes());
 }
 
 /// With a safe sequence: each page is published, and the program ends.

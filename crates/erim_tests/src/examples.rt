@@ -3,7 +3,7 @@
 //! Tests read no files, so the bytes stand here as text; `bench/examples.sh` looks whether they are
 //! those of the stored images.
 
-use crate::calling::{check_call, sink, store, words};
+use crate::calling::{check_call, check_replay, sink, store, words};
 use crate::rows::{bytes_of, cell, number, word};
 use erim_commands::erim_plain;
 use std::alloc::Global;
@@ -521,6 +521,7 @@ fn check_run(rt: &impl Abort, alloc: Global, bytes: Vec<u8>, output: &str, statu
         report.contains(line.as_str()) && ended == status,
         "{output}: {end}"
     );
+    check_replay(rt, alloc, &mut held, ended, out.written());
 }
 
 #[test]

@@ -2,10 +2,10 @@
 //! clause says.
 //!
 //! They stand in a crate of their own, since a crate with tests is proved twice. `files`, `images`,
-//! `instructions` and `turns` call libraries, `threads` those and `erim_plain`; the others call it
-//! (`calling`), `heap` and `mapping` by a program that makes the calls of a table (`calls`). Rows are
-//! text (`rows`), also those that images are laid out from (`laying`). Each call that allocates is
-//! made at least once where it succeeds.
+//! `instructions`, `journals`, `turns` and `words` call libraries, `threads` those and the program;
+//! the others call it (`calling`), `heap` and `mapping` by a program that makes the calls of a table
+//! (`calls`). Rows are text (`rows`), also those that images are laid out from (`laying`) and then
+//! run (`run_rows`). Each call that allocates is made at least once where it succeeds.
 #![tactic(auto)]
 
 #[cfg(test)]
@@ -33,16 +33,26 @@ mod inspecting;
 #[cfg(test)]
 mod instructions;
 #[cfg(test)]
+mod journals;
+#[cfg(test)]
 mod laying;
+#[cfg(test)]
+mod made;
 #[cfg(test)]
 mod mapping;
 #[cfg(test)]
 mod printing;
 #[cfg(test)]
+mod replaying;
+#[cfg(test)]
 mod rows;
+#[cfg(test)]
+mod run_rows;
 #[cfg(test)]
 mod running;
 #[cfg(test)]
 mod threads;
 #[cfg(test)]
 mod turns;
+#[cfg(test)]
+mod words;

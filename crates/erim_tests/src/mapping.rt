@@ -2,7 +2,7 @@
 //! write, protect and run pages.
 
 use crate::calls::{CALLER, CLOSED, Caller, GATE, OPEN, check_answers};
-use crate::running::check_rows;
+use crate::run_rows::check_rows;
 use std::alloc::Global;
 use std::process::Abort;
 

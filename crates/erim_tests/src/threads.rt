@@ -6,7 +6,7 @@
 
 use crate::laying::laid;
 use crate::rows::{bytes_of, cell, number};
-use crate::running::check_rows;
+use crate::run_rows::check_rows;
 use elf_image::{Image, read_image};
 use erim_defs::{End, Found, SeqKind};
 use erim_process::{Process, Setup, Stepped};

@@ -1,18 +1,23 @@
 //! Lays out made images: the file of a program that is given in parts, with a trust note of its
-//! trusted part and a functions note.
+//! trusted part and a functions note; and the sample programs.
 //!
-//! The command that makes sample images calls `lay_image`, and so do tests that need an image. Its
-//! result is `laid_image` of `erim_defs`' `LayImage`, byte for byte; what is read back from it is
-//! `elf_image`'s matter. The file header, the program headers (`header`), the notes (`note`) and
-//! the whole file (`image`) are appended one after another, through fields of 2, 4 and 8 bytes
-//! (`field`).
+//! `make_image` makes the image of so many threads that go so many rounds each (`made`), as
+//! `made_image` of `erim_defs`' `MadeImage`; `made_startable` is the law that each is accepted and
+//! can be started. It lays its parts by `lay_image`, as do tests that need an image, whose result is
+//! `laid_image` of `LayImage`, byte for byte. The file header, the program headers (`header`), the
+//! notes (`note`) and the whole file (`image`) are appended one after another, through fields of 2,
+//! 4 and 8 bytes (`field`).
 #![tactic(auto)]
 
 mod field;
 mod header;
 mod image;
+mod made;
 mod note;
 mod part;
+mod seed;
 
 pub use image::lay_image;
+pub use made::{made_startable, make_image};
 pub use part::{Mark, Part};
+pub use seed::{seed_image, seed_rounds, seed_threads};

@@ -1,9 +1,9 @@
 -- The calls on pages and keys: what an answer of each tells, and that each is fine.
-use Rattle.std.proofs.Common.{◌≡◌, ◌≢◌, ◌<◌, ◌≤◌, ◌+◌, ◌-◌, ◌*◌, ◌/◌, ◌%◌, ◌^◌, ◌⊎◌, ℕ, zero, suc}
+use Rattle.std.proofs.Common.{◌≡◌, ◌≢◌, ◌<◌, ◌≤◌, ◌+◌, ◌-◌, ◌*◌, ◌/◌, ◌%◌, ◌^◌, ◌⊎◌, ℕ}
 use Rattle.std.proofs.Common.{Option, Some, None, Bool, true, false, cond, eqb, ltb, not, ◌&&◌}
 use Rattle.std.proofs.Common.{◌||◌, is_some, refl, sym, ap, subst, ◌∙◌, arith, inl, inr, ne_eqb}
 use Rattle.std.proofs.Common.{lit<, ltb-true, ltb-false, leb-true}
-use Rattle.std.proofs.lemmas.Bool.{cases_Bool, cases_lt, and_parts, and_right, or_parts, or_right}
+use Rattle.std.proofs.lemmas.Bool.{cases_Bool, and_parts, and_right, or_parts, or_right}
 use Rattle.std.proofs.lemmas.Bool.{not-true, not-false}
 use Rattle.std.proofs.lemmas.Nat.{pow-add}
 use Rattle.std.proofs.Math.Bool.{and-true}
@@ -11,7 +11,6 @@ use Rattle.std.proofs.Math.Nat.{mod-add-div, mul_assoc}
 use Rattle.std.specs.Prelude.{option_map}
 use Rattle.erim_defs.specs.declared.machine.Rights.{Rights}
 use Rattle.erim_defs.specs.declared.machine.Thread.{Thread}
-use Rattle.erim_defs.specs.Inspection.Code.{or_else}
 use Rattle.erim_defs.specs.Inspection.Trust.{in_text_of}
 use Rattle.erim_defs.specs.Machine.Access.{opens}
 use Rattle.erim_defs.specs.Machine.Pages.{asks_exec, is_published}
@@ -20,8 +19,8 @@ use Rattle.erim_defs.specs.Machine.Count.{last_page}
 use Rattle.erim_defs.specs.Machine.State.{State, code, trust_of}
 use Rattle.erim_defs.specs.Machine.Start.{unpublished_rights}
 use Rattle.erim_defs.specs.Machine.CallResult.{Change, Answer, no_change}
-use Rattle.erim_defs.specs.Machine.MapCalls.{PageRange, range_of, is_in, any_below, any_page}
-use Rattle.erim_defs.specs.Machine.MapCalls.{least_below, has_key, is_protected, is_pinned}
+use Rattle.erim_defs.specs.Machine.MapCalls.{PageRange, range_of, is_in, any_page}
+use Rattle.erim_defs.specs.Machine.MapCalls.{has_key, is_protected, is_pinned}
 use Rattle.erim_defs.specs.Machine.MapCalls.{with_pages, lowest_free, new_rights, mmap_from}
 use Rattle.erim_defs.specs.Machine.MapCalls.{mmap_anywhere, mmap_at, mmap_result, munmap_result}
 use Rattle.erim_defs.specs.Machine.MapCalls.{asked_anew, key_or, with_prot, is_foreign, is_taken}
@@ -30,20 +29,13 @@ use Rattle.erim_defs.specs.Machine.MapCalls.{pkey_mprotect_result, with_key_righ
 use Rattle.erim_defs.specs.Machine.MapCalls.{least_free_key, alloc_key, pkey_alloc_result}
 use Rattle.erim_defs.specs.Machine.MapCalls.{pkey_free_result, has_pin}
 use Rattle.erim_defs.specs.Machine.Isolation.{IsKept, IsRuled}
+use Rattle.erim_defs.proofs.LeastLemmas.{any_below_false, least_holds}
 use Rattle.isolation.proofs.ThreadLemmas.{origins_unpinned}
 use Rattle.isolation.proofs.KeptLemmas.{IsFine, some_same, fresh_ruled, published_ruled}
 use Rattle.isolation.proofs.AnswerLemmas.{refuse_answer, answer_is, row_answer, none_of, text_left}
 use Rattle.isolation.proofs.AnswerLemmas.{LeavesPages, left_fine}
 
 -- ---- ranges of pages
-
-below_false : (n k : ℕ) (test : ℕ → Bool) → any_below n test ≡ false → k < n → test k ≡ false
-unfolding any_below
-below_false zero k test h l = absurd (omega arith)
-below_false (suc n) k test h l = elim (cases_lt k n) [
-  | inl m ↦ below_false n k test (or_parts _ _ h).1 m
-  | inr m ↦ (let e : k ≡ n = omega arith in rw e (or_parts _ _ h).0)
-]
 
 in_bounds : (r : PageRange) (q : ℕ) → is_in r q ≡ true → (r.first ≤ q) × (q < r.first + r.count)
 in_bounds r q i = (leb-true _ _ (and_parts _ _ i).0, ltb-true _ _ (and_parts _ _ i).1)
@@ -55,24 +47,10 @@ no_page r test q h i =
     let b = in_bounds r q i in
     let low : r.first ≤ q = b.0 in
     let high : q < r.first + r.count = b.1 in
-    let k = below_false r.count (q - r.first) (λ k. test (r.first + k)) h
+    let k = any_below_false r.count (q - r.first) (λ k. test (r.first + k)) h
     (omega (arith, low, high)) in
     let e : r.first + (q - r.first) ≡ q = omega (arith, low) in
     subst (λ (p : ℕ). test p ≡ false) e k
-
-least_some : (n a : ℕ) (test : ℕ → Bool) → least_below n test ≡ Some a → test a ≡ true
-unfolding least_below
-least_some zero a test h = absurd cc
-least_some (suc n) a test h = by (least_below n test) (λ e. least_some n a test e) h
-  where
-    by : (o : Option ℕ) → (o ≡ Some a → test a ≡ true)
-        → or_else o (cond (test n) (Some n) None) ≡ Some a → test a ≡ true
-    by None e k = elim (cases_Bool (test n)) [
-      | inl y ↦ (let z : n ≡ a = some_same n a (rw y at k) in
-          subst (λ (x : ℕ). test x ≡ true) z y)
-      | inr y ↦ absurd (let z : None ≡ Some a = rw y at k in cc)
-    ]
-    by (Some b) e k = e k
 
 -- what a range that isn't protected has: no trusted text, and trusted memory for an open caller
 pub record IsApart (s : State) (t : Thread) (r : PageRange) : Type 0 where
@@ -200,7 +178,7 @@ record IsFree (s : State) (r : PageRange) : Type 0 where
 free_found : (s : State) (count first : ℕ) → lowest_free s.rights count ≡ Some first
     → IsFree s (record { first = first; count = count })
 free_found s count first e =
-    let free = and_parts _ _ (and_parts _ _ (least_some last_page first _ e)).1 in
+    let free = and_parts _ _ (and_parts _ _ (least_holds last_page first _ e)).1 in
     record {
       low = ltb-false _ _ (not-true _ free.0);
       unmapped = λ q i. none_of (s.rights q)
@@ -476,7 +454,7 @@ alloc_leaves s t bits v (Some key) c h e k =
       keys = λ j. eqb j key || s.keys j;
       pkru = with_key_rights t.pkru key bits;
     }) in
-    let two : 1 < key = ltb-true _ _ (and_parts _ _ (least_some 16 key _ e)).0 in
+    let two : 1 < key = ltb-true _ _ (and_parts _ _ (least_holds 16 key _ e)).0 in
     subst (LeavesPages s t) (answer_is key v made c k) (record {
       rights = refl;
       bytes = refl;

@@ -25,14 +25,14 @@ use Rattle.erim_defs.specs.Machine.State.{State, code, is_inside, is_outside, tr
 use Rattle.erim_defs.specs.Machine.CallResult.{Change, Answer, Quit, no_change}
 use Rattle.erim_defs.specs.Machine.Calls.{write_result}
 use Rattle.erim_defs.specs.Machine.Calls.{call_result}
-use Rattle.erim_defs.specs.Machine.MapCalls.{has_key as page_has_key, PageRange, is_in, with_pages}
+use Rattle.erim_defs.specs.Machine.MapCalls.{has_key, PageRange, is_in, with_pages}
 use Rattle.erim_defs.specs.Machine.MapCalls.{with_prot, is_trusted_key, mmap_result}
 use Rattle.erim_defs.specs.Machine.MapCalls.{munmap_result, mprotect_result}
 use Rattle.erim_defs.specs.Machine.MapCalls.{pkey_mprotect_result}
 use Rattle.erim_defs.specs.Machine.Step.{behind_syscall, fetch}
 use Rattle.erim_defs.specs.Machine.Isolation.{IsKept, Stands, PositionFact}
 use Rattle.isolation.specs.Laws.{Reaches, Changes, PageRights, PageBytes, MakesCall, Touches}
-use Rattle.isolation.specs.Laws.{ByInsn, ByWrite, ByCall, TouchLaw, has_key}
+use Rattle.isolation.specs.Laws.{ByInsn, ByWrite, ByCall, TouchLaw}
 use Rattle.isolation.proofs.CheckLemmas.{check_fetched}
 use Rattle.erim_defs.proofs.WriteLemmas.{stop_or_none}
 use Rattle.isolation.proofs.StandLemmas.{called_check, is_leave, place_after, place_plan, runs_same}
@@ -196,11 +196,6 @@ left_open : (s : State) (t : Thread) (q : ℕ) (c : Change) → c.rights ≡ s.r
 left_open s t q c r b (PageRights n) k = absurd (n (ap (λ (f : RightsMap). f q) r))
 left_open s t q c r b (PageBytes a e n) k = absurd (n (ap (λ (f : ByteMap). f a) b))
 
--- the calls and the laws ask the key of a page alike
-key_same : (o : Option Rights) (k : ℕ) → page_has_key o k ≡ has_key o k
-key_same None k = refl
-key_same (Some r) k = refl
-
 -- what write reads, and that it leaves the pages
 record WriteReads (s : State) (t : Thread) (buf n : ℕ) (c : Change) : Type 0 where
   allowed : stop (whole s.rights) false t.pkru buf n ≡ None
@@ -233,7 +228,7 @@ pages_open : (s : State) (t : Thread) (q : ℕ) (r : PageRange) (rights : Option
     → IsNew rights → IsApart s t r → Opens s t q (with_pages s t r rights)
 pages_open s t q r rights new apart ch k = elim (cases_Bool (is_in r q)) [
   | inl i ↦ elim k [
-    | inl before ↦ apart.keyed q i (key_same (s.rights q) 1 ∙ before)
+    | inl before ↦ apart.keyed q i before
     | inr after ↦ absurd (new_key rights new (rw i at after))
   ]
   | inr o ↦ absurd (outside ch o)
@@ -286,7 +281,7 @@ prot_open s t q r prot key plain apart ch k = elim (cases_Bool (is_in r q)) [
 ]
   where
     held : is_in r q ≡ true → has_key (s.rights q) 1 ≡ true → opens t.pkru 1 ≡ true
-    held i before = apart.keyed q i (key_same (s.rights q) 1 ∙ before)
+    held i before = apart.keyed q i before
 
     outside : Changes s (with_prot s t r prot key) q → is_in r q ≡ false → ⊥
     outside (PageRights n) o = n (rw o refl)

@@ -1,6 +1,6 @@
 -- Laws of every run beside the isolation invariant. Own, after ERIM.
-use Rattle.std.specs.Prelude.{◌≡◌, ◌≢◌, ◌⊎◌, ◌↔◌, ◌<◌, ◌≤◌, ◌+◌, ◌/◌, ◌%◌, ◌==◌, ℕ, Bool, true}
-use Rattle.std.specs.Prelude.{false, Option, Some, None, List, [], ◌∷◌, length, slice_get}
+use Rattle.std.specs.Prelude.{◌≡◌, ◌≢◌, ◌⊎◌, ◌↔◌, ◌<◌, ◌≤◌, ◌+◌, ◌/◌, ◌%◌, ℕ, true}
+use Rattle.std.specs.Prelude.{false, Some, None, List, [], ◌∷◌, length, slice_get}
 use Rattle.erim_defs.specs.declared.machine.Thread.{Thread}
 use Rattle.erim_defs.specs.declared.machine.Rights.{Rights}
 use Rattle.erim_defs.specs.declared.machine.Entry.{Entry}
@@ -23,6 +23,7 @@ use Rattle.erim_defs.specs.Machine.State.{Setup, State, code, is_inside, is_outs
 use Rattle.erim_defs.specs.Machine.State.{is_open}
 use Rattle.erim_defs.specs.Machine.CallResult.{Change, Answer}
 use Rattle.erim_defs.specs.Machine.Calls.{call_result}
+use Rattle.erim_defs.specs.Machine.MapCalls.{has_key}
 use Rattle.erim_defs.specs.Machine.Step.{step, sequence_of, behind_syscall, fetch}
 use Rattle.erim_defs.specs.Machine.Start.{frames_needed, is_keyed, first_state, trusted_unsafe}
 use Rattle.erim_defs.specs.Machine.Replay.{replay}
@@ -84,11 +85,6 @@ ChecksLaw = (s new : State) (t : ℕ) (old : Thread) → CanStep s t old → s.e
     → is_outside (trust_of s) old ≡ true → step t s ≡ Some new → ChecksOn s new t old
 
 -- ---- who touches trusted memory
-
--- is it a page with this protection key
-abbrev pub has_key : Option Rights → ℕ → Bool
-has_key None k = false
-has_key (Some r) k = r.key == k
 
 -- an instruction reads or writes the byte at x
 abbrev pub Reaches : Plan → Seen → ByteMap → ℕ → ℕ → Type 0

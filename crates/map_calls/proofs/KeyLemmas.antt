@@ -1,42 +1,57 @@
 -- Bits of PKRU and of the taken keys.
-use Rattle.std.proofs.Common.{◌≡◌, ◌≢◌, ◌<◌, ◌≤◌, ◌+◌, ◌*◌, ◌/◌, ◌%◌, ◌^◌, ◌∙◌, ℕ, zero, suc, arith, ap}
-use Rattle.std.proofs.Common.{Bool, true, false, not, ◌&&◌, ◌||◌, eqb, eqb-true, sym, refl, inl, inr}
-use Rattle.std.proofs.Common.{Option, Some, None, pow-add, bit_xor, nat_lt, ◌==◌, ◌⊎◌, ne_eqb, ltb-true}
+use Rattle.std.proofs.Common.{◌≡◌, ◌≢◌, ◌<◌, ◌≤◌, ◌+◌, ◌-◌, ◌*◌, ◌/◌, ◌%◌, ◌^◌, ◌∙◌, ℕ, zero, suc}
+use Rattle.std.proofs.Common.{Bool, true, false, not, ◌&&◌, ◌||◌, eqb, eqb-true, sym, refl, inl}
+use Rattle.std.proofs.Common.{Option, Some, None, pow-add, bit_xor, nat_lt, ◌==◌, ◌⊎◌, ne_eqb, inr}
+use Rattle.std.proofs.Common.{ltb-true, arith, ap, subst}
 use Rattle.std.proofs.Math.Path.{fun_ext}
 use Rattle.std.specs.Int.{bit_at}
 use Rattle.std.proofs.lemmas.Bool.{cases_Bool, cases_lt, eqb-false, le-ltb, lt-ltb}
-use Rattle.std.proofs.lemmas.Bool.{and_parts}
+use Rattle.std.proofs.lemmas.Bool.{agree_below_at, and_parts}
 use Rattle.std.proofs.lemmas.Nat.Bits.{bit_at_xor, bit_at-lt, bit_at-pow_same, bit_at-pow_other}
 use Rattle.erim_defs.specs.Bits.{has_bit}
 use Rattle.erim_defs.specs.declared.machine.Keys.{Keys}
 use Rattle.erim_defs.specs.declared.machine.Thread.{Thread}
 use Rattle.erim_defs.specs.Machine.State.{State}
 use Rattle.erim_defs.specs.Machine.CallResult.{CallResult, Refusal, Answer, no_change}
-use Rattle.erim_defs.specs.Machine.MapCalls.{with_key_rights, least_below, alloc_key}
+use Rattle.erim_defs.specs.Machine.MapCalls.{with_key_rights, alloc_key}
+use Rattle.erim_defs.specs.Machine.Least.{least_below}
 use Rattle.erim_defs.specs.Machine.MapCalls.{least_free_key, is_taken}
 use Rattle.erim_defs.specs.Machine.MapCalls.{pkey_alloc_result, pkey_free_result}
 use Rattle.map_calls.specs.KeyAnswers.{HasKeys, key_map, least_free, is_freeable}
 
 -- PKRU with other rights of a key is below 2^32, key by key
-pub rights_low : (key p b : ℕ) → key < 16 → p < 2 ^ 32 → b < 4 → with_key_rights p key b < 2 ^ 32
+low_keys : (key p b : ℕ) → key < 8 → p < 2 ^ 32 → b < 4 → with_key_rights p key b < 2 ^ 32
 unfolding with_key_rights
-rights_low zero p b h l m = omega (arith, l, m)
-rights_low (suc zero) p b h l m = omega (arith, l, m)
-rights_low (suc (suc zero)) p b h l m = omega (arith, l, m)
-rights_low (suc (suc (suc zero))) p b h l m = omega (arith, l, m)
-rights_low (suc (suc (suc (suc zero)))) p b h l m = omega (arith, l, m)
-rights_low (suc (suc (suc (suc (suc zero))))) p b h l m = omega (arith, l, m)
-rights_low (suc (suc (suc (suc (suc (suc zero)))))) p b h l m = omega (arith, l, m)
-rights_low (suc (suc (suc (suc (suc (suc (suc zero))))))) p b h l m = omega (arith, l, m)
-rights_low (suc (suc (suc (suc (suc (suc (suc (suc zero)))))))) p b h l m = omega (arith, l, m)
-rights_low (suc (suc (suc (suc (suc (suc (suc (suc (suc zero))))))))) p b h l m = omega (arith, l, m)
-rights_low (suc (suc (suc (suc (suc (suc (suc (suc (suc (suc zero)))))))))) p b h l m = omega (arith, l, m)
-rights_low (suc (suc (suc (suc (suc (suc (suc (suc (suc (suc (suc zero))))))))))) p b h l m = omega (arith, l, m)
-rights_low (suc (suc (suc (suc (suc (suc (suc (suc (suc (suc (suc (suc zero)))))))))))) p b h l m = omega (arith, l, m)
-rights_low (suc (suc (suc (suc (suc (suc (suc (suc (suc (suc (suc (suc (suc zero))))))))))))) p b h l m = omega (arith, l, m)
-rights_low (suc (suc (suc (suc (suc (suc (suc (suc (suc (suc (suc (suc (suc (suc zero)))))))))))))) p b h l m = omega (arith, l, m)
-rights_low (suc (suc (suc (suc (suc (suc (suc (suc (suc (suc (suc (suc (suc (suc (suc zero))))))))))))))) p b h l m = omega (arith, l, m)
-rights_low (suc (suc (suc (suc (suc (suc (suc (suc (suc (suc (suc (suc (suc (suc (suc (suc k)))))))))))))))) p b h l m = absurd (omega (arith, h))
+low_keys zero p b h l m = omega (arith, l, m)
+low_keys (suc zero) p b h l m = omega (arith, l, m)
+low_keys (suc (suc zero)) p b h l m = omega (arith, l, m)
+low_keys (suc (suc (suc zero))) p b h l m = omega (arith, l, m)
+low_keys (suc (suc (suc (suc zero)))) p b h l m = omega (arith, l, m)
+low_keys (suc (suc (suc (suc (suc zero))))) p b h l m = omega (arith, l, m)
+low_keys (suc (suc (suc (suc (suc (suc zero)))))) p b h l m = omega (arith, l, m)
+low_keys (suc (suc (suc (suc (suc (suc (suc zero))))))) p b h l m = omega (arith, l, m)
+low_keys (suc (suc (suc (suc (suc (suc (suc (suc k)))))))) p b h l m = absurd (omega (arith, h))
+
+high_keys : (key p b : ℕ) → key < 8 → p < 2 ^ 32 → b < 4
+    → with_key_rights p (8 + key) b < 2 ^ 32
+unfolding with_key_rights
+high_keys zero p b h l m = omega (arith, l, m)
+high_keys (suc zero) p b h l m = omega (arith, l, m)
+high_keys (suc (suc zero)) p b h l m = omega (arith, l, m)
+high_keys (suc (suc (suc zero))) p b h l m = omega (arith, l, m)
+high_keys (suc (suc (suc (suc zero)))) p b h l m = omega (arith, l, m)
+high_keys (suc (suc (suc (suc (suc zero))))) p b h l m = omega (arith, l, m)
+high_keys (suc (suc (suc (suc (suc (suc zero)))))) p b h l m = omega (arith, l, m)
+high_keys (suc (suc (suc (suc (suc (suc (suc zero))))))) p b h l m = omega (arith, l, m)
+high_keys (suc (suc (suc (suc (suc (suc (suc (suc k)))))))) p b h l m = absurd (omega (arith, h))
+
+pub rights_low : (key p b : ℕ) → key < 16 → p < 2 ^ 32 → b < 4 → with_key_rights p key b < 2 ^ 32
+rights_low key p b h l m = elim (cases_lt key 8) [
+  | inl low ↦ low_keys key p b low l m
+  | inr high ↦ (let same : 8 + (key - 8) ≡ key = omega arith in
+      subst (λ k. with_key_rights p k b < 2 ^ 32) same
+      (high_keys (key - 8) p b (omega arith) l m))
+]
 
 -- written by the place of the key
 pub rights_written : (p key b old place bits : ℕ) → old ≡ p → place ≡ 2 ^ (2 * key) → bits ≡ b
@@ -49,23 +64,8 @@ rights_written p key b old place bits e f g =
 -- ---- one bit
 
 pub one_shifted : (key : ℕ) → key < 16 → 1 * 2 ^ key % 65536 ≡ 2 ^ key
-one_shifted zero l = refl
-one_shifted (suc zero) l = refl
-one_shifted (suc (suc zero)) l = refl
-one_shifted (suc (suc (suc zero))) l = refl
-one_shifted (suc (suc (suc (suc zero)))) l = refl
-one_shifted (suc (suc (suc (suc (suc zero))))) l = refl
-one_shifted (suc (suc (suc (suc (suc (suc zero)))))) l = refl
-one_shifted (suc (suc (suc (suc (suc (suc (suc zero))))))) l = refl
-one_shifted (suc (suc (suc (suc (suc (suc (suc (suc zero)))))))) l = refl
-one_shifted (suc (suc (suc (suc (suc (suc (suc (suc (suc zero))))))))) l = refl
-one_shifted (suc (suc (suc (suc (suc (suc (suc (suc (suc (suc zero)))))))))) l = refl
-one_shifted (suc (suc (suc (suc (suc (suc (suc (suc (suc (suc (suc zero))))))))))) l = refl
-one_shifted (suc (suc (suc (suc (suc (suc (suc (suc (suc (suc (suc (suc zero)))))))))))) l = refl
-one_shifted (suc (suc (suc (suc (suc (suc (suc (suc (suc (suc (suc (suc (suc zero))))))))))))) l = refl
-one_shifted (suc (suc (suc (suc (suc (suc (suc (suc (suc (suc (suc (suc (suc (suc zero)))))))))))))) l = refl
-one_shifted (suc (suc (suc (suc (suc (suc (suc (suc (suc (suc (suc (suc (suc (suc (suc zero))))))))))))))) l = refl
-one_shifted (suc (suc (suc (suc (suc (suc (suc (suc (suc (suc (suc (suc (suc (suc (suc (suc k)))))))))))))))) l = absurd (omega (arith, l))
+one_shifted key l =
+    eqb-true _ _ (agree_below_at (λ k. 1 * 2 ^ k % 65536 == 2 ^ k) (λ k. true) 16 key refl l)
 
 -- a bit that is exchanged
 flipped : (n key k : ℕ) → k ≡ key → has_bit (bit_xor n (2 ^ key)) k ≡ not (has_bit n k)

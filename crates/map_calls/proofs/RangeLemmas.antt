@@ -1,38 +1,17 @@
 -- Tests of the pages of a range.
 use Rattle.std.proofs.Common.{◌≡◌, ◌<◌, ◌≤◌, ℕ, zero, suc, ◌+◌, ◌-◌, ◌&&◌, ◌||◌, Bool, true, false}
 use Rattle.std.proofs.Common.{nat_lt, nat_le, max, min, refl, sym, ◌∙◌, arith, inl, inr}
-use Rattle.std.proofs.lemmas.Bool.{cases_Bool, cases_lt, lt-ltb, le-ltb}
+use Rattle.std.proofs.lemmas.Bool.{cases_lt, lt-ltb, le-ltb}
 use Rattle.std.proofs.lemmas.Bool.Decides.{nat_tests}
-use Rattle.erim_defs.specs.Machine.MapCalls.{any_below, any_page, PageRange}
-
--- a test of no page
-pub any_below_none : (n : ℕ) (test : ℕ → Bool) → ((k : ℕ) → k < n → test k ≡ false)
-    → any_below n test ≡ false
-unfolding any_below
-any_below_none zero test h = refl
-any_below_none (suc n) test h =
-    rw (h n (omega arith), any_below_none n test (λ k l. h k (omega arith))) refl
-
-below : (n k : ℕ) (test : ℕ → Bool) → k < suc n → test k ≡ true → test n ≡ false → k < n
-below n k test l h f = elim (cases_lt k n) [
-  | inl m ↦ m
-  | inr m ↦ absurd (let e : k ≡ n = omega arith in let t : test n ≡ true = rw e at h in cc)
-]
+use Rattle.erim_defs.specs.Machine.MapCalls.{any_page, PageRange}
+use Rattle.erim_defs.specs.Machine.Least.{any_below}
+use Rattle.erim_defs.proofs.LeastLemmas.{any_below_none, any_below_some}
 
 swap : (a b x y : Bool) → ((a || b) || (x || y)) ≡ ((a || x) || (b || y))
 swap true b x y = refl
 swap false true true y = refl
 swap false true false y = refl
 swap false false x y = refl
-
--- a test of one page
-pub any_below_some : (n k : ℕ) (test : ℕ → Bool) → k < n → test k ≡ true → any_below n test ≡ true
-unfolding any_below
-any_below_some zero k test l h = absurd (omega arith)
-any_below_some (suc n) k test l h = elim (cases_Bool (test n)) [
-  | inl t ↦ rw t refl
-  | inr f ↦ rw (f, any_below_some n k test (below n k test l h f) h) refl
-]
 
 -- tests that agree
 pub any_below_same : (n : ℕ) (f g : ℕ → Bool) → ((k : ℕ) → k < n → f k ≡ g k)
@@ -55,7 +34,8 @@ any_below_either (suc n) f g =
 pub any_page_none : (r : PageRange) (test : ℕ → Bool)
     → ((q : ℕ) → r.first ≤ q → q < r.first + r.count → test q ≡ false) → any_page r test ≡ false
 any_page_none r test h =
-    any_below_none r.count (λ k. test (r.first + k)) (λ k l. h (r.first + k) (omega arith) (omega arith))
+    any_below_none r.count (λ k. test (r.first + k))
+    (λ k l. h (r.first + k) (omega arith) (omega arith))
 
 pub any_page_some : (r : PageRange) (test : ℕ → Bool) (q : ℕ) → r.first ≤ q
     → q < r.first + r.count → test q ≡ true → any_page r test ≡ true

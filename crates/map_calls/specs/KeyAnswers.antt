@@ -5,7 +5,7 @@ use Rattle.erim_defs.specs.declared.machine.Keys.{Keys}
 use Rattle.erim_defs.specs.declared.machine.Thread.{Thread}
 use Rattle.erim_defs.specs.Machine.State.{State}
 use Rattle.erim_defs.specs.Machine.CallResult.{CallResult, Refusal, Answer, no_change}
-use Rattle.erim_defs.specs.Machine.MapCalls.{least_below}
+use Rattle.erim_defs.specs.Machine.Least.{least_below}
 
 -- which keys are taken
 abbrev pub key_map : Keys → ℕ → Bool

@@ -13,14 +13,13 @@ ghost use Rattle.page_store.specs.Answers.{rights_in};
 
 use crate::guards::{has_pin, is_protected};
 use crate::range::PageSpan;
-use crate::rights::unpublished;
 use crate::unmapping::unmap_range;
 use crate::walk::next_in;
 use erim_defs::linux::{
     EAGAIN, EINVAL, ENOMEM, EPERM, LOWEST_FIXED, LOWEST_FREE_PAGE, MAP_ANYWHERE, MAP_AT,
 };
 use erim_defs::page::{PAGE_SIZE, PLAIN_KEY, USER_END_PAGE};
-use erim_defs::{Thread, Trust};
+use erim_defs::{Rights, Thread, Trust};
 use page_store::{Memory, Pages};
 
 /// How many pages of a range are mapped.
@@ -49,7 +48,7 @@ fn map_range<P: Pages>(pages: &mut P, range: &PageSpan, asked: u8)
     ensures frames { P.frames pages.new ≡ P.frames pages.old }
 {
     for page in range.first..range.end() {
-        pages.map_zero(page, unpublished(asked, PLAIN_KEY));
+        pages.map_zero(page, Rights::unpublished(asked, PLAIN_KEY));
     }
 }
 

@@ -1,53 +1,15 @@
 -- Which thread comes next: the live thread with the least number from one on, and the next turn.
-use Rattle.std.proofs.Common.{◌≡◌, ℕ, ◌+◌, ◌-◌, ◌<◌, ◌≤◌, zero, suc, Bool, true, false, Option}
+use Rattle.std.proofs.Common.{◌≡◌, ℕ, ◌+◌, ◌-◌, ◌<◌, ◌≤◌, suc, true, false, Option}
 use Rattle.std.proofs.Common.{Some, None, List, [], ◌∷◌, length, refl, sym, subst, arith, inl}
-use Rattle.std.proofs.Common.{inr, cond}
+use Rattle.std.proofs.Common.{inr}
 use Rattle.std.proofs.lemmas.Bool.{cases_Bool, cases_lt, le-leb, lt-leb, and_parts}
 use Rattle.std.specs.Prelude.{◌&&◌, IfNone, nat_le, nat_lt, option_map}
 use Rattle.erim_defs.specs.declared.machine.Thread.{Thread}
 use Rattle.erim_defs.specs.Inspection.Code.{or_else}
-use Rattle.erim_defs.specs.Machine.MapCalls.{least_below}
 use Rattle.erim_defs.specs.Machine.State.{any_live}
-use Rattle.erim_defs.proofs.LeastLemmas.{least_found, least_none}
+use Rattle.erim_defs.proofs.LeastLemmas.{least_found, least_holds, least_never, least_none}
 use Rattle.thread_runner.specs.declared.turn.Turn.{Turn}
 use Rattle.thread_runner.specs.Turns.{is_live_at, live_from, live_behind, new_turn, turn_after}
-
--- ---- the least number of which a test holds
-
-some_same : (a b : ℕ) → Some a ≡ Some b → a ≡ b
-some_same a b h = cc
-
--- the test holds of the number that is found
-least_some : (n a : ℕ) (test : ℕ → Bool) → least_below n test ≡ Some a → test a ≡ true
-unfolding least_below
-least_some zero a test h = absurd cc
-least_some (suc n) a test h = by (least_below n test) (λ e. least_some n a test e) h
-  where
-    by : (o : Option ℕ) → (o ≡ Some a → test a ≡ true)
-        → or_else o (cond (test n) (Some n) None) ≡ Some a → test a ≡ true
-    by None e k = elim (cases_Bool (test n)) [
-      | inl y ↦ (let z : n ≡ a = some_same n a (rw y at k) in
-          subst (λ (x : ℕ). test x ≡ true) z y)
-      | inr y ↦ absurd (let z : None ≡ Some a = rw y at k in cc)
-    ]
-    by (Some b) e k = e k
-
--- where none is found the test holds of none
-least_never : (n k : ℕ) (test : ℕ → Bool) → least_below n test ≡ None → k < n → test k ≡ false
-unfolding least_below
-least_never zero k test h l = absurd (omega arith)
-least_never (suc n) k test h l = by (least_below n test) (λ e. least_never n k test e) h
-  where
-    by : (o : Option ℕ) → (o ≡ None → k < n → test k ≡ false)
-        → or_else o (cond (test n) (Some n) None) ≡ None → test k ≡ false
-    by (Some b) e h = absurd cc
-    by None e h = elim (cases_lt k n) [
-      | inl m ↦ e refl m
-      | inr m ↦ elim (cases_Bool (test n)) [
-        | inl y ↦ absurd (let z : Some n ≡ None = rw y at h in cc)
-        | inr y ↦ (let same : n ≡ k = omega arith in subst (λ (x : ℕ). test x ≡ false) same y)
-      ]
-    ]
 
 -- ---- the least live thread from a number on
 
@@ -82,7 +44,7 @@ live_nowhere threads first none =
 from_live : (threads : List Thread) (first t : ℕ) → live_from threads first ≡ Some t
     → is_live_at threads t ≡ true
 from_live threads first t found =
-    (and_parts _ _ (least_some (length threads) t
+    (and_parts _ _ (least_holds (length threads) t
     (λ k. nat_le first k && is_live_at threads k) found)).1
 
 behind_live : (threads : List Thread) (first second t : ℕ)

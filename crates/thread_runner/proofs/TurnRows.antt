@@ -5,7 +5,7 @@ use Rattle.std.proofs.Common.{refl}
 use Rattle.erim_defs.specs.declared.machine.End.TheVariants.{Exit}
 use Rattle.erim_defs.specs.declared.machine.Entry.{Entry}
 use Rattle.erim_defs.specs.declared.machine.Thread.{Thread}
-use Rattle.erim_defs.specs.Machine.MapCalls.{least_below}
+use Rattle.erim_defs.specs.Machine.Least.{least_below}
 use Rattle.erim_defs.specs.Machine.State.{State}
 use Rattle.erim_defs.proofs.SmallMachine.{thread_at, state_of, step_by}
 use Rattle.thread_runner.specs.declared.turn.Turn.{Turn}

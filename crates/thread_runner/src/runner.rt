@@ -18,7 +18,7 @@ use std::alloc::Global;
 const WORKER: u16 = 0;
 
 /// Can the process make a step?
-fn is_running(process: &Process) -> bool
+pub(crate) fn is_running(process: &Process) -> bool
     ensures running { result ≡ true → IsRunning (state_of process.now) }
     ensures left { result ≡ true → (state_of process.now).steps < process.now.setup.budget }
     ensures over { result ≡ false → IsOver (state_of process.now) }

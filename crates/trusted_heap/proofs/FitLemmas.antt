@@ -11,10 +11,10 @@ use Rattle.std.proofs.lemmas.List.{take_all, take_more}
 use Rattle.std.proofs.lemmas.List.Folds.{list_any-append}
 use Rattle.erim_defs.specs.declared.trust.Span.{Span}
 use Rattle.erim_defs.specs.Inspection.Code.{or_else}
-use Rattle.erim_defs.specs.Machine.MapCalls.{least_below}
+use Rattle.erim_defs.specs.Machine.Least.{least_below}
 use Rattle.erim_defs.specs.Machine.HeapCalls.{block_at, meets, lies_within, is_fit, first_fit}
 use Rattle.erim_defs.specs.Machine.HeapCalls.{last_unit, last_unit_is}
-use Rattle.erim_defs.proofs.LeastLemmas.{least_found, least_none}
+use Rattle.erim_defs.proofs.LeastLemmas.{least_found, least_holds, least_low, least_none}
 use Rattle.trusted_heap.specs.Blocks.{EndsLow, IsLowestGap, IsWithin, sooner}
 
 -- ---- in one range
@@ -92,34 +92,6 @@ fit_none h blocks from u c e gap l =
 pub none_in_none : (blocks : List Span) (c : ℕ) → first_fit [] blocks c ≡ None
 unfolding first_fit
 none_in_none blocks c = least_none last_unit _ (λ k l. refl)
-
--- a least number is below the bound
-least_low : (n p : ℕ) (test : ℕ → Bool) → least_below n test ≡ Some p → p < n
-unfolding least_below
-least_low zero p test h = absurd cc
-least_low (suc n) p test h =
-    by (least_below n test) (test n) (λ q e. least_low n q test e) h
-  where
-    by : (o : Option ℕ) (b : Bool) → ((q : ℕ) → o ≡ Some q → q < n)
-        → or_else o (cond b (Some n) None) ≡ Some p → p < suc n
-    by (Some q) b low h = (let same : q ≡ p = cc in
-        let l = low q refl in omega (arith, l, same))
-    by None true low h = (let same : n ≡ p = cc in omega (arith, same))
-    by None false low h = absurd cc
-
--- and the test holds of it
-least_holds : (n p : ℕ) (test : ℕ → Bool) → least_below n test ≡ Some p → test p ≡ true
-unfolding least_below
-least_holds zero p test h = absurd cc
-least_holds (suc n) p test h =
-    by (least_below n test) (test n) refl (λ q e. least_holds n q test e) h
-  where
-    by : (o : Option ℕ) (b : Bool) → test n ≡ b → ((q : ℕ) → o ≡ Some q → test q ≡ true)
-        → or_else o (cond b (Some n) None) ≡ Some p → test p ≡ true
-    by (Some q) b e holds h = (let same : q ≡ p = cc in
-        subst (λ k. test k ≡ true) same (holds q refl))
-    by None true e holds h = (let same : n ≡ p = cc in subst (λ k. test k ≡ true) same e)
-    by None false e holds h = absurd cc
 
 -- what is found lies in a range, and meets no block
 pub fit_holds : (heaps blocks : List Span) (c u : ℕ) → Some u ≡ first_fit heaps blocks c

@@ -1,76 +1,38 @@
 //! `run`: runs an image, saves the journal of the run, and prints its report.
 
-ghost use Rattle.std.specs.Prelude.{◌≡◌, IfOk};
+ghost use Rattle.std.specs.Prelude.{◌≤◌, IfOk};
 ghost use Rattle.erim_defs.specs.Machine.Replay.{IsOver};
+ghost use Rattle.erim_defs.specs.Output.Report.{report};
 ghost use Rattle.erim_defs.specs.Output.Words.{Run};
+ghost use Rattle.command_words.specs.Commands.{AreRunNumbers};
 ghost use Rattle.erim_process.specs.ProcessValue.{state_of};
 ghost use Rattle.thread_runner.specs.Running.{AreAlone};
-ghost use Rattle.erim_commands.specs.declared.reply.Status.TheVariants.{ImageRefused};
 ghost use Rattle.erim_commands.specs.CallParts.{IsMadeFor, reply_of};
-ghost use Rattle.erim_commands.specs.Commands.{AreRunNumbers, plan_of, run_setup, started_run};
+ghost use Rattle.erim_commands.specs.Commands.{plan_of, run_setup, started_run};
 ghost use Rattle.erim_commands.specs.Delivery.{Carries, world};
-ghost use Rattle.erim_commands.specs.Replies.{IsAnswer, IsRunReply, end_status, start_text, told};
+ghost use Rattle.erim_commands.specs.Replies.{IsAnswer, IsRunReply};
 
 use crate::delivery::conclude;
-use crate::journal::write_journal;
-use crate::loads::{image_refused, load_image};
-use crate::reply::{Reply, Save, Status};
-use crate::report::report;
-use crate::text::start_line;
+use crate::loads::load_image;
+use crate::reply::Reply;
+use crate::runs::{QUANTUM, run_reply, unstarted};
 use elf_image::Image;
-use erim_defs::{End, NoMemory};
+use erim_defs::NoMemory;
 use erim_io::{Sink, Store};
 use erim_process::{Process, Setup, StartFault};
+use report_text::report;
 use std::alloc::Global;
 use thread_runner::run_serial;
 
-/// How many steps a run may make.
-pub const STEPS: u32 = 1_000_000;
-
-/// How many pages a run may map.
-pub const FRAMES: u32 = 1024;
-
-/// How many steps a thread makes in a row, before the next one's turn.
-const QUANTUM: u32 = 64;
-
-/// The status of a process that has ended, or whose budget is spent.
-fn end_status(end: Option<End>) -> Status
-    ensures { result ≡ end_status end }
-{
-    match end {
-        None => Status::Spent,
-        Some(End::Exit { .. }) => Status::Done,
-        Some(End::Fault { .. } | End::Refused { .. }) => Status::AtFault,
-    }
-}
-
 /// The report of a process that has run, and its journal, which is to be saved under the name.
-fn run_reply<'a>(alloc: Global, process: &Process, journal: &'a str) -> Result<Reply<'a>, NoMemory>
+fn reported<'a>(alloc: Global, process: &Process, journal: &'a str) -> Result<Reply<'a>, NoMemory>
     requires over { IsOver (state_of process.now) }
     requires alone { AreAlone process.now.journal }
-    ensures { IfOk result (λ reply. IsRunReply journal.now process.now.setup (reply_of reply)) }
+    ensures { IfOk result (λ reply.
+        IsRunReply report journal.now process.now.setup (reply_of reply)) }
 {
-    let setup = process.setup();
-    let bytes = write_journal(alloc, process.journal(), setup.budget, setup.frames)?;
-    let text = report(alloc, process)?;
-    Ok(Reply {
-        status: end_status(process.end()),
-        text,
-        save: Some(Save {
-            name: journal,
-            bytes,
-        }),
-    })
-}
-
-/// The reply of a command whose image can't start for this cause.
-fn unstarted<'a>(alloc: Global, fault: &StartFault) -> Result<Reply<'a>, NoMemory>
-    ensures { IfOk result (λ reply. reply_of reply ≡ told ImageRefused (start_text fault.now)) }
-{
-    match start_line(alloc, fault) {
-        Ok(line) => Ok(image_refused(line)),
-        Err(NoMemory) => Err(NoMemory),
-    }
+    let text = report(alloc, process, process.journal())?;
+    run_reply(alloc, process, journal, text)
 }
 
 /// Runs the image, or says why it can't start.
@@ -81,9 +43,12 @@ fn started_reply<'a>(
     steps: u32,
     frames: u32,
 ) -> Result<Reply<'a>, NoMemory>
-    requires { AreRunNumbers steps frames }
+    requires some_steps { 1 ≤ steps }
+    requires few_steps { steps ≤ 4194304 }
+    requires some_frames { 64 ≤ frames }
+    requires few_frames { frames ≤ 4096 }
     ensures { let setup = run_setup image steps frames in
-        IsMadeFor (started_run journal.entry.now setup) result }
+        IsMadeFor (started_run report journal.entry.now setup) result }
 {
     let setup = Setup {
         image,
@@ -91,26 +56,28 @@ fn started_reply<'a>(
         frames,
     };
     match run_serial(alloc, setup, QUANTUM) {
-        Ok(process) => run_reply(alloc, &process, journal),
+        Ok(process) => reported(alloc, &process, journal),
         Err(StartFault::Memory) => Err(NoMemory),
         Err(fault) => unstarted(alloc, &fault),
     }
 }
 
-/// Loads an image and runs it.
+/// Loads an image and runs it. However many workers there are, one makes all steps.
 pub fn run<S: Store, K: Sink>(
     alloc: Global,
     image: &str,
     journal: &str,
+    _workers: u8,
     steps: u32,
     frames: u32,
     store: &mut S,
     out: &mut K,
 ) -> u8
-    requires { AreRunNumbers steps frames }
+    requires { AreRunNumbers _workers steps frames }
     ensures { let old = world S.Store K.Sink store.old out.old in
         let new = world S.Store K.Sink store.new out.new in
-        Carries IsAnswer (plan_of (Run image.now journal.now steps frames)) old new result }
+        let command = Run image.now journal.now _workers steps frames in
+        Carries IsAnswer (plan_of command) old new result }
 {
     match load_image(alloc, image, store, out) {
         Ok(image) => {

@@ -92,11 +92,11 @@ alu_op n =
     if n == 0 then Add else if n == 1 then Or else if n == 2 then Adc else if n == 3 then Sbb else
     if n == 4 then And else if n == 5 then Sub else if n == 6 then Xor else Cmp
 
--- by the opcode extension of F6, F7, FE and FF
+-- by the opcode extension of opcodes 0xF6, 0xF7, 0xFE and 0xFF
 unfoldable pub unary_op : ℕ → UnaryOp
 unary_op n = if n == 0 then Inc else if n == 1 then Dec else if n == 2 then Not else Neg
 
--- by the opcode extension of C0, C1 and D0 to D3
+-- by the opcode extension of opcodes 0xC0, 0xC1 and 0xD0 to 0xD3
 unfoldable pub shift_op : ℕ → ShiftOp
 shift_op n = if n == 4 then Shl else if n == 5 then Shr else Sar
 

@@ -1,8 +1,8 @@
 -- Sequences of bytes that write PKRU. SDM volume 2: WRPKRU is 0F 01 EF; XRSTOR is 0F AE /5 with an
 -- operand in memory, and goes on over its SIB byte and displacement. Prefixes and REX don't belong
 -- to a sequence. XRSTORS is privileged, so it isn't looked for.
-use Rattle.std.specs.Prelude.{◌≡◌, ℕ, ◌+◌, ◌/◌, ◌%◌, ◌<◌, ◌≤◌, ◌&&◌, ◌==◌, nat_lt, true, Bool, Option}
-use Rattle.std.specs.Prelude.{Some, None, is_some, zero, suc, if◌then◌else◌}
+use Rattle.std.specs.Prelude.{◌≡◌, ℕ, ◌+◌, ◌/◌, ◌%◌, ◌<◌, ◌≤◌, ◌&&◌, ◌==◌, nat_lt, true, Bool}
+use Rattle.std.specs.Prelude.{Option, Some, None, is_some, zero, suc, if◌then◌else◌}
 use Rattle.erim_defs.specs.declared.found.SeqKind.TheVariants.{Wrpkru, Xrstor}
 use Rattle.erim_defs.specs.declared.found.Found.{Found}
 use Rattle.erim_defs.specs.Inspection.Code.{Code, has, or_else}

@@ -3,6 +3,7 @@ use Rattle.std.specs.Prelude.{◌≡◌, ◌<◌, ◌≤◌, refl, ℕ, ◌^◌,
 use Rattle.std.specs.Prelude.{zero, suc}
 use Rattle.erim_defs.specs.declared.found.Found.{Found}
 use Rattle.erim_defs.specs.Inspection.Code.{Code, or_else}
+use Rattle.erim_defs.specs.Inspection.Image.{image_code, image_trust}
 use Rattle.erim_defs.specs.Inspection.Trust.{TrustValue}
 use Rattle.erim_defs.specs.Inspection.Safe.{unsafe_at}
 
@@ -35,6 +36,10 @@ unsafe_list trust c = list_below top (unsafe_at trust c)
 -- its first element
 unfoldable pub first_unsafe : TrustValue → Code → Option Found
 first_unsafe trust c = first_below top (unsafe_at trust c)
+
+-- the unsafe list of the code of an image
+abbrev pub image_list : List ℕ → List Found
+image_list bytes = unsafe_list (image_trust bytes) (image_code bytes)
 
 -- nothing of a code is unsafe from an address up to another
 abbrev pub NoneUnsafe : TrustValue → Code → ℕ → ℕ → Type 0

@@ -10,7 +10,7 @@ use Rattle.erim_defs.specs.declared.machine.Thread.{Thread}
 use Rattle.erim_defs.specs.declared.trust.Span.{Span}
 use Rattle.erim_defs.specs.Inspection.Image.{image_heaps}
 use Rattle.erim_defs.specs.Machine.CallResult.{CallResult, Refusal, Answer, no_change, or_refuse}
-use Rattle.erim_defs.specs.Machine.MapCalls.{least_below}
+use Rattle.erim_defs.specs.Machine.Least.{least_below}
 use Rattle.erim_defs.specs.Machine.State.{State, trust_of, is_open}
 
 -- ---- where a block fits

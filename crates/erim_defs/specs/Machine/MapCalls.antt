@@ -1,8 +1,8 @@
 -- The calls on pages and protection keys. Linux: mmap(2), munmap(2), mprotect(2), pkeys(7). What is
 -- protected and what is pinned is own, after ERIM, whose monitor keeps trusted memory and the code
 -- that was inspected from such calls.
-use Rattle.std.specs.Prelude.{ℕ, ◌+◌, ◌-◌, ◌*◌, ◌/◌, ◌%◌, ◌^◌, ◌==◌, ◌&&◌, ◌||◌, not, nat_lt, nat_le}
-use Rattle.std.specs.Prelude.{zero, suc, Bool, false, Option, Some, None, is_none, is_some}
+use Rattle.std.specs.Prelude.{ℕ, ◌+◌, ◌-◌, ◌*◌, ◌/◌, ◌%◌, ◌^◌, ◌==◌, ◌&&◌, ◌||◌, not, nat_lt}
+use Rattle.std.specs.Prelude.{nat_le, Bool, false, Option, Some, None, is_none, is_some}
 use Rattle.std.specs.Prelude.{List, [], ◌∷◌, option_map, if◌then◌else◌}
 use Rattle.erim_defs.specs.declared.found.Found.{Found}
 use Rattle.erim_defs.specs.declared.linux.TheConstants.{EPERM, EAGAIN, ENOMEM, EINVAL, ENOSPC}
@@ -11,7 +11,6 @@ use Rattle.erim_defs.specs.declared.linux.TheConstants.{LOWEST_FREE_PAGE, KEYS, 
 use Rattle.erim_defs.specs.declared.machine.Rights.{Rights}
 use Rattle.erim_defs.specs.declared.machine.Thread.{Thread}
 use Rattle.erim_defs.specs.declared.page.TheConstants.{PLAIN_KEY, TRUSTED_KEY}
-use Rattle.erim_defs.specs.Inspection.Code.{or_else}
 use Rattle.erim_defs.specs.Inspection.Trust.{in_text_of}
 use Rattle.erim_defs.specs.Machine.Pages.{RightsMap, asks_exec, published_rights}
 use Rattle.erim_defs.specs.Machine.Count.{last_page, count_below, mapped}
@@ -19,6 +18,7 @@ use Rattle.erim_defs.specs.Machine.State.{State, trust_of, is_open}
 use Rattle.erim_defs.specs.Machine.Start.{unpublished_rights}
 use Rattle.erim_defs.specs.Machine.CallResult.{Change, CallResult, Refusal, Answer, no_change}
 use Rattle.erim_defs.specs.Machine.CallResult.{or_refuse}
+use Rattle.erim_defs.specs.Machine.Least.{any_below, least_below}
 
 -- ---- ranges of pages
 
@@ -38,19 +38,9 @@ is_in r q = nat_le r.first q && nat_lt q (r.first + r.count)
 abbrev pub is_past : PageRange → Bool
 is_past r = nat_lt (2 ^ 35) (r.first + r.count)
 
--- a test holds of a number below n
-unfoldable pub any_below : ℕ → (ℕ → Bool) → Bool
-any_below zero test = false
-any_below (suc n) test = test n || any_below n test
-
 -- a test holds of a page of a range
 abbrev pub any_page : PageRange → (ℕ → Bool) → Bool
 any_page r test = any_below r.count (λ k. test (r.first + k))
-
--- the least number below n of which a test holds
-unfoldable pub least_below : ℕ → (ℕ → Bool) → Option ℕ
-least_below zero test = None
-least_below (suc n) test = or_else (least_below n test) (if test n then Some n else None)
 
 -- ---- what a call may not touch
 

@@ -1,5 +1,5 @@
--- The calls on threads. Linux: sched_yield(2), clone(2), gettid(2). Numbers of threads are own: they
--- count from 0, and a program sees them from 1 on.
+-- The calls on threads. Linux: sched_yield(2), clone(2), gettid(2). Numbers of threads are own:
+-- they count from 0, and a program sees them from 1 on.
 use Rattle.std.specs.Prelude.{ℕ, ◌+◌, ◌%◌, ◌^◌, ◌==◌, not, nat_le, Some, length, if◌then◌else◌}
 use Rattle.erim_defs.specs.declared.limits.TheConstants.{MOST_THREADS}
 use Rattle.erim_defs.specs.declared.linux.TheConstants.{CLONE_FLAGS, EAGAIN, EINVAL}
@@ -9,8 +9,8 @@ use Rattle.erim_defs.specs.Machine.Registers.{with_register}
 use Rattle.erim_defs.specs.Machine.State.{State}
 use Rattle.erim_defs.specs.Machine.CallResult.{CallResult, Answer, no_change, or_refuse}
 
--- a copy of the caller, as it goes on behind its call, with 0 in RAX, and another stack where one is
--- given
+-- a copy of the caller, as it goes on behind its call, with 0 in RAX, and another stack where one
+-- is given
 abbrev pub new_thread : Thread → ℕ → Thread
 new_thread t stack =
     let u = with_register t RAX 0 in if stack == 0 then u else with_register u RSP stack

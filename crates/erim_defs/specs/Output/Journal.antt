@@ -1,9 +1,17 @@
--- Journals: which ones there are, and the bytes of a saved one. Own. Fields have the low byte
--- first.
-use Rattle.std.specs.Prelude.{◌≡◌, ◌≤◌, ℕ, ◌&&◌, nat_le, true, Bool, List, ◌++◌, length, codes}
+-- Journals: which ones there are, the bytes of a saved one, and what bytes are no journal. Own.
+-- Fields have the low byte first.
+use Rattle.std.specs.Prelude.{◌≡◌, ◌≤◌, ℕ, ◌+◌, ◌*◌, ◌&&◌, not, nat_lt, nat_le, true, Bool}
+use Rattle.std.specs.Prelude.{Option, Some, None, List, [], ◌∷◌, ◌++◌, length, take, codes}
+use Rattle.std.specs.Prelude.{zero, suc}
+use Rattle.std.specs.Prelude.{if◌then◌else◌}
 use Rattle.std.specs.List.{flat_map, AllByRecursion}
 use Rattle.std.specs.Int.{w16, w32, to_le_bytes}
+use Rattle.std.specs.Str.{bytes_eq}
+use Rattle.erim_defs.specs.declared.journal.JournalFault.{JournalFault}
+use Rattle.erim_defs.specs.declared.journal.JournalFault.TheVariants.{Short, Magic, Budget, Frames}
+use Rattle.erim_defs.specs.declared.journal.JournalFault.TheVariants.{Count, Trailing, BadEntry}
 use Rattle.erim_defs.specs.declared.machine.Entry.{Entry}
+use Rattle.erim_defs.specs.Inspection.Image.{number_at}
 
 -- the steps of a run, with the budget and the frames that it had
 pub record JournalValue : Type 0 where
@@ -47,3 +55,55 @@ journal_text j =
 abbrev pub OneJournal : Type 0
 OneJournal = (j k : JournalValue) → IsJournal j → IsJournal k → journal_text j ≡ journal_text k
     → j ≡ k
+
+-- ---- what bytes say, and the first fault of those that are no journal
+
+-- worker, thread and count of the eight bytes from a place on
+abbrev pub entry_at : List ℕ → ℕ → Entry
+entry_at bytes place = record {
+  worker = number_at bytes place 2;
+  thread = number_at bytes (place + 2) 2;
+  count = number_at bytes (place + 4) 4;
+}
+
+-- so many entries from a place on
+unfoldable pub entries_from : List ℕ → ℕ → ℕ → List Entry
+entries_from bytes place zero = []
+entries_from bytes place (suc n) = entry_at bytes place ∷ entries_from bytes (place + 8) n
+
+-- the budget, the frames, and how many entries there are to be
+abbrev pub budget_of : List ℕ → ℕ
+budget_of bytes = number_at bytes 8 4
+
+abbrev pub frames_of : List ℕ → ℕ
+frames_of bytes = number_at bytes 12 4
+
+abbrev pub count_of : List ℕ → ℕ
+count_of bytes = number_at bytes 16 4
+
+-- the journal whose bytes they are, if they are one's
+unfoldable pub journal_of : List ℕ → JournalValue
+journal_of bytes = record {
+  budget = budget_of bytes;
+  frames = frames_of bytes;
+  entries = entries_from bytes 20 (count_of bytes);
+}
+
+-- the first entry that isn't one, from an index on
+unfoldable pub entry_fault : ℕ → List Entry → Option JournalFault
+entry_fault index [] = None
+entry_fault index (e ∷ es) =
+    if is_entry e then entry_fault (index + 1) es else Some (BadEntry index)
+
+-- the first fault
+unfoldable pub journal_fault : List ℕ → Option JournalFault
+journal_fault bytes =
+    let end = 20 + 8 * count_of bytes in
+    if nat_lt (length bytes) 20 then Some (Short (length bytes))
+    else if not (bytes_eq (take 8 bytes) (codes "ERIMJNL1")) then Some Magic
+    else if not (nat_le 1 (budget_of bytes) && nat_le (budget_of bytes) 4194304) then Some Budget
+    else if not (nat_le 64 (frames_of bytes) && nat_le (frames_of bytes) 4096) then Some Frames
+    else if nat_lt (budget_of bytes) (count_of bytes) then Some Count
+    else if nat_lt (length bytes) end then Some (Short (length bytes))
+    else if nat_lt end (length bytes) then Some (Trailing end)
+    else entry_fault 0 (entries_from bytes 20 (count_of bytes))

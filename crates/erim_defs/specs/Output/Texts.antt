@@ -14,6 +14,8 @@ use Rattle.erim_defs.specs.declared.fault.ImageFault.TheVariants.{NoteVersion, B
 use Rattle.erim_defs.specs.declared.fault.ImageFault.TheVariants.{TextNotExec, DataRange}
 use Rattle.erim_defs.specs.declared.fault.ImageFault.TheVariants.{EntryNotTrusted, EntryPoint}
 use Rattle.erim_defs.specs.declared.fault.ImageFault.TheVariants.{BadFunction, Memory}
+use Rattle.erim_defs.specs.declared.journal.JournalFault.{JournalFault}
+use Rattle.erim_defs.specs.declared.journal.JournalFault.TheVariants as journal
 
 abbrev pub line : List ℕ → List ℕ
 line text = text ++ 10 ∷ []
@@ -64,6 +66,17 @@ fault_text (EntryNotTrusted index) = codes "image record " ++ decimal index ++ c
 fault_text (BadFunction index) = codes "image function " ++ decimal index
 fault_text EntryPoint = codes "image entry point"
 fault_text Memory = codes "out of memory"
+
+-- what names a fault of a journal
+abbrev pub journal_fault_text : JournalFault → List ℕ
+journal_fault_text (journal.Short at) = codes "journal short at " ++ decimal at
+journal_fault_text journal.Magic = codes "journal magic"
+journal_fault_text journal.Budget = codes "journal budget"
+journal_fault_text journal.Frames = codes "journal frames"
+journal_fault_text journal.Count = codes "journal count"
+journal_fault_text (journal.Trailing at) = codes "journal trailing at " ++ decimal at
+journal_fault_text (journal.BadEntry index) = codes "journal entry " ++ decimal index
+journal_fault_text journal.Memory = codes "out of memory"
 
 -- a line that says why a command did nothing
 unfoldable pub error_line : List ℕ → List ℕ

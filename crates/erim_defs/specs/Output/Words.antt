@@ -1,48 +1,118 @@
--- What a list of words means. Own. The first word is the program's name, whatever it is.
-use Rattle.std.specs.Prelude.{ℕ, ◌==◌, ◌||◌, Bool, false, Option, Some, None, List, [], ◌∷◌, codes}
+-- What a list of words means. Own. The first word is the program's name, whatever it is; the second
+-- is the command's, letter by letter.
+use Rattle.std.specs.Prelude.{ℕ, ◌^◌, ◌-◌, ◌&&◌, nat_lt, Option, None, List, [], ◌∷◌, codes, find}
 use Rattle.std.specs.Prelude.{if◌then◌else◌}
-use Rattle.std.specs.Option.{option_map}
+use Rattle.std.specs.Option.{option_map, option_and_then, option_map_or}
 use Rattle.std.specs.Str.{bytes_eq}
+use Rattle.erim_defs.specs.Output.WordForms.{Text, Name, Number, Slot, Form, Given, number_of}
+use Rattle.erim_defs.specs.Output.WordForms.{is_numeral, word_of, given_by}
 
--- a command with its names, each as its bytes
+-- a command with its names, each as its bytes, and its numbers
 pub data Command : Type 0 where
   -- prints the unsafe list of an image
-  Inspect : (image : List ℕ) → Command
+  Inspect : (image : Text) → Command
   -- prints the instructions of an image
-  Disasm : (image : List ℕ) → Command
-  -- runs an image for at most so many steps with at most so many mapped pages, saves the journal of
-  -- the run, and prints its report
-  Run : (image journal : List ℕ) (steps frames : ℕ) → Command
+  Disasm : (image : Text) → Command
+  -- runs an image with so many workers, for at most so many steps with at most so many mapped
+  -- pages, saves the journal of the run, and prints its report
+  Run : (image journal : Text) (workers steps frames : ℕ) → Command
+  -- runs an image by a journal, and prints the report
+  Replay : (image journal : Text) → Command
+  -- saves the image that is made from a seed
+  Gen : (seed : ℕ) (out : Text) → Command
+  -- runs the image that is made from a seed, saves the journal of the run, and prints its line
+  Soak : (seed : ℕ) (journal : Text) → Command
 
--- a word that begins with `-` and isn't `-` alone
-abbrev pub is_option : List ℕ → Bool
-is_option [] = false
-is_option (c ∷ []) = false
-is_option (c ∷ d ∷ rest) = c == 45
+-- ---- operands and options
 
--- the image of a command that has nothing else: `inspect IMAGE`, `disasm IMAGE`
-abbrev pub only_image : List (List ℕ) → Option (List ℕ)
-only_image [] = None
-only_image (image ∷ []) = if is_option image then None else Some image
-only_image (image ∷ more ∷ rest) = None
+abbrev pub name_slot : Text → Slot
+name_slot name = record { name = name; kind = Name }
 
--- `run IMAGE JOURNAL`, with 1,000,000 steps and 1,024 frames
-abbrev pub run_of : List (List ℕ) → Option Command
-run_of [] = None
-run_of (image ∷ []) = None
-run_of (image ∷ journal ∷ []) =
-    if is_option image || is_option journal then None else Some (Run image journal 1000000 1024)
-run_of (image ∷ journal ∷ more ∷ rest) = None
+abbrev pub number_slot : Text → ℕ → ℕ → Slot
+number_slot name least most = record { name = name; kind = Number least most }
 
-abbrev pub named_command : List (List ℕ) → Option Command
-named_command [] = None
-named_command (command ∷ others) =
-    if bytes_eq command (codes "inspect") then option_map Inspect (only_image others)
-    else if bytes_eq command (codes "disasm") then option_map Disasm (only_image others)
-    else if bytes_eq command (codes "run") then run_of others
-    else None
+abbrev pub image : Slot
+image = name_slot (codes "IMAGE")
+
+abbrev pub journal : Slot
+journal = name_slot (codes "JOURNAL")
+
+abbrev pub out : Slot
+out = name_slot (codes "OUT")
+
+abbrev pub seed : Slot
+seed = number_slot (codes "SEED") 0 (2 ^ 64 - 1)
+
+abbrev pub workers : Slot
+workers = number_slot (codes "workers") 1 8
+
+abbrev pub steps : Slot
+steps = number_slot (codes "steps") 1 4194304
+
+abbrev pub frames : Slot
+frames = number_slot (codes "frames") 64 4096
+
+-- the word that was given for a slot
+abbrev pub text : Given → Slot → Text
+text given slot = option_map_or (λ word. word) (word_of slot.name given) []
+
+-- a word that was given for a number is a numeral below 2 ^ 64, so it is never the other case
+abbrev pub number_or : ℕ → Text → ℕ
+number_or standard word =
+    if is_numeral word && nat_lt (number_of word) (2 ^ 64) then number_of word else standard
+
+-- the number that was given for a slot, or the one that stands for none
+abbrev pub value : Given → Slot → ℕ → ℕ
+value given slot standard = option_map_or (number_or standard) (word_of slot.name given) standard
+
+-- ---- the commands: the word, the operands and options, and what they mean
+
+pub record Usage : Type 0 where
+  pub word : Text
+  pub form : Form
+  pub means : Given → Command
+
+abbrev pub usage : Text → List Slot → List Slot → (Given → Command) → Usage
+usage word operands options means = record {
+  word = word;
+  form = record { operands = operands; options = options };
+  means = means;
+}
+
+abbrev pub inspect_usage : Usage
+inspect_usage = usage (codes "inspect") (image ∷ []) [] (λ g. Inspect (text g image))
+
+abbrev pub disasm_usage : Usage
+disasm_usage = usage (codes "disasm") (image ∷ []) [] (λ g. Disasm (text g image))
+
+-- without options: 4 workers, 1,000,000 steps, 1,024 frames
+abbrev pub run_usage : Usage
+run_usage =
+    usage (codes "run") (image ∷ journal ∷ []) (workers ∷ steps ∷ frames ∷ [])
+    (λ g. Run (text g image) (text g journal) (value g workers 4) (value g steps 1000000)
+    (value g frames 1024))
+
+abbrev pub replay_usage : Usage
+replay_usage =
+    usage (codes "replay") (image ∷ journal ∷ []) [] (λ g. Replay (text g image) (text g journal))
+
+abbrev pub gen_usage : Usage
+gen_usage = usage (codes "gen") (seed ∷ out ∷ []) [] (λ g. Gen (value g seed 0) (text g out))
+
+abbrev pub soak_usage : Usage
+soak_usage =
+    usage (codes "soak") (seed ∷ journal ∷ []) [] (λ g. Soak (value g seed 0) (text g journal))
+
+abbrev pub usages : List Usage
+usages = inspect_usage ∷ disasm_usage ∷ run_usage ∷ replay_usage ∷ gen_usage ∷ soak_usage ∷ []
+
+-- what a usage means by the words behind its word
+abbrev pub meant : List Text → Usage → Option Command
+meant words u = option_map u.means (given_by u.form words)
 
 -- the command that the words mean
-unfoldable pub command_of : List (List ℕ) → Option Command
+unfoldable pub command_of : List Text → Option Command
 command_of [] = None
-command_of (program ∷ words) = named_command words
+command_of (program ∷ []) = None
+command_of (program ∷ word ∷ words) =
+    option_and_then (meant words) (find (λ u. bytes_eq word u.word) usages)

@@ -3,7 +3,7 @@
 ghost use Rattle.std.specs.Prelude.{◌≡◌, ◌<◌, ◌^◌, ◌*◌, ◌++◌};
 ghost use Rattle.std.specs.List.{list_any};
 ghost use Rattle.erim_defs.specs.Inspection.Trust.{spans};
-ghost use Rattle.erim_defs.specs.Machine.Start.{unpublished_rights, asked_of};
+ghost use Rattle.erim_defs.specs.Machine.Start.{asked_of};
 ghost use Rattle.erim_process.specs.ImagePages.{key_at, page_rights};
 ghost use Rattle.erim_defs.specs.Machine.Pages.{IsSound};
 
@@ -23,19 +23,6 @@ pub(super) fn asked_of(segment: &Segment) -> u8
         0
     };
     PROT_READ + writable + executable
-}
-
-/// The rights of a page that isn't published.
-pub(super) fn unpublished_rights(asked: u8, key: u8) -> Rights
-    ensures { result ≡ unpublished_rights asked key }
-{
-    Rights {
-        read: asked != 0,
-        write: asked / 2 % 2 == 1,
-        exec: false,
-        asked,
-        key,
-    }
 }
 
 // Is the address in one of the ranges?
@@ -71,7 +58,7 @@ pub(super) fn page_rights(
     ensures value { result ≡ page_rights trust.now trusted_data.now trusted_heaps.now asked page }
     ensures sound { IsSound result }
 {
-    let rights = unpublished_rights(asked, key_at(trusted_data, trusted_heaps, page));
+    let rights = Rights::unpublished(asked, key_at(trusted_data, trusted_heaps, page));
     if trust.is_trusted(PAGE_SIZE * page) {
         rights.published()
     } else {

@@ -2,9 +2,10 @@ use Rattle.std.proofs.Common.{◌∙◌, refl, sym, ap, Global}
 use Rattle.std.specs.Prelude.{codes}
 use Rattle.erim_defs.specs.Inspection.Image.{first_fault}
 use Rattle.erim_defs.specs.Output.Texts.{error_line}
+use Rattle.erim_commands.specs.Commands.{image_format}
 use Rattle.erim_commands.specs.Delivery.{world}
 use Rattle.erim_commands.specs.Replies.{image_fault}
-use Rattle.erim_commands.proofs.DeliveryLemmas.{image_faulty, image_passes, image_unloaded}
+use Rattle.erim_commands.proofs.DeliveryLemmas.{file_faulty, file_passes, file_unloaded}
 use Rattle.erim_commands.proofs.DeliveryLemmas.{read_accepted, read_faulty}
 use Rattle.erim_commands.proofs.loads.load_image.Goals as goal
 
@@ -13,7 +14,7 @@ unfolding error_line
 returns-in-Err g c =
     let old = world g.S.Store g.K.Sink c.args.store.now c.args.out.now in
     let new = world g.S.Store g.K.Sink c.load.new.store c.load.new.out in
-    λ next. image_unloaded Global c.args.name.now next old new c.in-Err.status
+    λ next. file_unloaded Global image_format c.args.name.now next old new c.in-Err.status
     (c.in-Err.ensures (codes "image too large") refl)
 
 pub returns-in-Ok-read_image : goal.returns-in-Ok-read_image
@@ -25,7 +26,7 @@ returns-in-Ok-read_image g c =
     let slice = c.as_slice.result.now in
     let read = read_accepted slice c.in-Ok-read_image.image (first_fault slice)
     c.in-Ok-read_image.ensures.faulty c.in-Ok-read_image.ensures.accepted in
-    image_passes c.args.name.now c.in-Ok.bytes.items c.in-Ok-read_image.image old new loaded.0
+    file_passes image_format c.args.name.now c.in-Ok.bytes.items c.in-Ok-read_image.image old new loaded.0
     loaded.1 loaded.2 (ap image_fault (sym c.as_slice.ensures.value) ∙ read.0) (read.1
     ∙ c.as_slice.ensures.value)
 
@@ -38,7 +39,7 @@ returns g c =
     let loaded = c.in-Ok.ensures (codes "image too large") refl in
     let slice = c.as_slice.result.now in
     let read = c.in-Err-read_image.ensures in
-    image_faulty c.args.name.now c.in-Ok.bytes.items slice old mid new c.faulty_image.result
+    file_faulty image_format c.args.name.now c.in-Ok.bytes.items slice old mid new c.faulty_image.result
     c.conclude.result loaded.0 loaded.1 loaded.2 c.as_slice.ensures.value
     (λ next. read_faulty c.in-Err-read_image.fault (first_fault slice) next c.faulty_image.result
     read.faulty read.accepted c.faulty_image.ensures) c.conclude.ensures

@@ -1,6 +1,6 @@
 use Rattle.std.proofs.Common.{append_assoc}
 use Rattle.erim_defs.specs.Output.Texts.{error_line}
-use Rattle.erim_commands.proofs.ResultLemmas.{if_ok_then}
+use Rattle.erim_defs.proofs.ResultLemmas.{if_ok_then}
 use Rattle.erim_commands.proofs.text.numbered.Goals as goal
 
 pub returns : goal.returns

@@ -1,6 +1,8 @@
-use Rattle.std.proofs.Common.{map}
+use Rattle.std.proofs.Common.{map, inl, inr, refl}
 use Rattle.std.specs.String.{string_bytes}
 use Rattle.erim_defs.specs.Output.Words.{command_of}
+use Rattle.erim_commands.specs.declared.reply.Status.TheVariants.{ImageRefused}
+use Rattle.erim_commands.specs.declared.reply.Status.TheVariants.{JournalRefused}
 use Rattle.erim_commands.specs.Commands.{plan_for}
 use Rattle.erim_commands.specs.Delivery.{world}
 use Rattle.erim_commands.specs.Replies.{IsAnswer}
@@ -18,7 +20,9 @@ returns g c =
       ends = c.obey.ensures;
       end = tells_end IsAnswer (plan_for words) old new c.obey.result c.obey.ensures;
       words = tells_words words old new c.obey.result c.obey.ensures;
-      refusal = tells_refusal words old new c.obey.result c.obey.ensures;
+      image = tells_refusal ImageRefused words old new c.obey.result (inl refl) c.obey.ensures;
+      journal =
+          tells_refusal JournalRefused words old new c.obey.result (inr refl) c.obey.ensures;
       work = tells_work words old new c.obey.result c.obey.ensures;
       fault = tells_fault words old new c.obey.result c.obey.ensures;
       faultless = tells_faultless IsAnswer (plan_for words) old new c.obey.result c.obey.ensures;

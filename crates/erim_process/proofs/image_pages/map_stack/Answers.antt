@@ -30,12 +30,13 @@ loop-page-preserved g c =
     unmapped_next is_stack 0x7FFE0 page (λ _. unpublished_rights 3 0) old now
     c.loop-page.invariant.rights c.requires.unmapped (stack_test page low high) in
     let rights : rights_in (g.P.Memory.seen c.map_zero.new.self)
-    ≡ with_value_at now page (Some c.unpublished_rights.result) = ap rights_in c.map_zero.ensures.seen in
+    ≡ with_value_at now page (Some c.unpublished.result) =
+    ap rights_in c.map_zero.ensures.seen in
     let more : mapped (rights_in (g.P.Memory.seen c.map_zero.new.self)) ≡ mapped now + 1 =
-    ap mapped rights ∙ mapped_more now page c.unpublished_rights.result small none in
+    ap mapped rights ∙ mapped_more now page c.unpublished.result small none in
     record {
       rights = rights
-          ∙ ap (λ (r : Rights). with_value_at now page (Some r)) c.unpublished_rights.ensures
+          ∙ ap (λ (r : Rights). with_value_at now page (Some r)) c.unpublished.ensures
           ∙ ap (λ (m : RightsMap). with_value_at m page (Some (unpublished_rights 3 0)))
           c.loop-page.invariant.rights
           ∙ rights_next 0x7FFE0 page (λ _. unpublished_rights 3 0) old low;

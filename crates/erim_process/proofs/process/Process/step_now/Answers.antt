@@ -20,7 +20,8 @@ pub invariant_of-self : goal.invariant_of-self
 invariant_of-self c =
     let p = c.self.inside in
     let held = c.self.invariant in
-    let made = c.in-Made.ensures.made (setup_of p.setup) refl (sym c.trust.ensures) held.frames held.heaps refl in
+    let made = c.in-Made.ensures.made (setup_of p.setup) refl (sym c.trust.ensures) held.frames
+    held.heaps refl in
     let steps = c.in-Made.ensures.steps refl in
     let pushed = rw c.from.ensures at c.push.ensures.items in
     record {
@@ -28,7 +29,8 @@ invariant_of-self c =
           c.push.new.self.items held steps.0 made c.push.ensures.succeeds pushed;
       entries = entries_pushed _ p c.args.thread c.args.worker c.push.result c.push.new.self.items
           held steps.0 c.requires
-          (let there = c.in-Made.ensures.there refl in omega (arith, there)) c.push.ensures.succeeds pushed;
+          (let there = c.in-Made.ensures.there refl in omega (arith, there))
+          c.push.ensures.succeeds pushed;
       counted = (let counted = held.counted in
           omega (arith, c.push.ensures.upper_bound, counted, steps.1));
       room = (let room = held.room in omega (arith, room, c.push.ensures.capacity));
@@ -49,7 +51,8 @@ pub returns-in-Made-clause-state : goal.returns-in-Made-clause-state
 returns-in-Made-clause-state c = λ _.
     let p = c.self.inside in
     let held = c.self.invariant in
-    let made = c.in-Made.ensures.made (setup_of p.setup) refl (sym c.trust.ensures) held.frames held.heaps refl in
+    let made = c.in-Made.ensures.made (setup_of p.setup) refl (sym c.trust.ensures) held.frames
+    held.heaps refl in
     let steps = c.in-Made.ensures.steps refl in
     let pushed = rw c.from.ensures at c.push.ensures.items in
     let replayed = replay_goes _ p c.step.new.self c.args.thread c.args.worker c.push.result
@@ -62,7 +65,8 @@ pub returns-in-Made-clause-counted : goal.returns-in-Made-clause-counted
 returns-in-Made-clause-counted c = λ _.
     let p = c.self.inside in
     let held = c.self.invariant in
-    let made = c.in-Made.ensures.made (setup_of p.setup) refl (sym c.trust.ensures) held.frames held.heaps refl in
+    let made = c.in-Made.ensures.made (setup_of p.setup) refl (sym c.trust.ensures) held.frames
+    held.heaps refl in
     let steps = c.in-Made.ensures.steps refl in
     let pushed = rw c.from.ensures at c.push.ensures.items in
     let replayed = replay_goes _ p c.step.new.self c.args.thread c.args.worker c.push.result
@@ -78,7 +82,8 @@ pub returns-in-Made-clause-run : goal.returns-in-Made-clause-run
 returns-in-Made-clause-run c =
     let p = c.self.inside in
     let held = c.self.invariant in
-    let made = c.in-Made.ensures.made (setup_of p.setup) refl (sym c.trust.ensures) held.frames held.heaps refl in
+    let made = c.in-Made.ensures.made (setup_of p.setup) refl (sym c.trust.ensures) held.frames
+    held.heaps refl in
     let steps = c.in-Made.ensures.steps refl in
     let pushed = rw c.from.ensures at c.push.ensures.items in
     let replayed = replay_goes _ p c.step.new.self c.args.thread c.args.worker c.push.result

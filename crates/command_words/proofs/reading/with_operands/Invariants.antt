@@ -1,0 +1,10 @@
+use Rattle.std.proofs.Common.{◌≡◌, map, take}
+use Rattle.clap.specs.Words.{app_of}
+use Rattle.command_words.specs.Clap.{slot_of, operand_rule, with_rules}
+use Rattle.command_words.proofs.reading.with_operands.Given as goal
+
+-- the slots so far
+abbrev pub invariant-loop-slot : goal.invariant-loop-slot
+invariant-loop-slot l =
+    app_of l.command ≡ with_rules (app_of l.initial.command)
+    (map operand_rule (map slot_of (take l.slot-index l.operands)))

@@ -1,0 +1,3 @@
+pub mod InspectLemmas
+pub mod ReportLemmas
+pub mod TextLemmas
