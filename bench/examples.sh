@@ -37,6 +37,7 @@ for level in stored -O0 -O2 -Os; do
     expect vault 'exit 0' 0 'output 27\nsignature 8ba44d954fc27494\n\n'
     expect attacker 'fault key' 0 'output 31\nsignature 48a6f656ba234331\nkey \n'
     expect hidden 'refused page 0x000000401000 wrpkru' 1 'output 0\n\n'
+    expect overlaps 'refused page' 3 'output 0\n\n'
     expect counters 'exit 0' 0 'output 25\ncounted 00000000000007d0\n\n'
     expect jit 'exit 0' 0 'output 41\n((x*3)+4)*5-6 of 100 is 00000000000005ea\n\n'
     expect sort 'exit 0' 0 'output 51\n0000000000000000\n00000000000007f6\n0000000000000fff\n\n'

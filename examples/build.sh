@@ -7,7 +7,7 @@ here=$(cd "$(dirname "$0")" && pwd) || exit 1
 folder=${1:-$here/images}
 [ $# -gt 0 ] && shift
 [ $# -gt 0 ] || set -- "$here/vault.c" "$here/attacker.c" "$here/hidden.c" "$here/counters.c" \
-    "$here/jit.c" "$here/sort.c"
+    "$here/jit.c" "$here/overlaps.c" "$here/sort.c"
 compiler=${CC:-cc}
 for tool in "$compiler" ld objdump; do
     if ! command -v "$tool" >/dev/null; then

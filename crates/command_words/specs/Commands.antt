@@ -1,6 +1,7 @@
 -- A command of the code: which command it means, and the ranges of its numbers. Own.
 use Rattle.std.specs.Prelude.{◌≤◌, ⊤, ℕ}
-use Rattle.erim_defs.specs.Output.Words.{Command as Meant, Inspect, Disasm, Run, Replay, Gen, Soak}
+use Rattle.erim_defs.specs.Output.Words.{Command as Meant, Inspect, Disasm, Run, Replay, Rewrite}
+use Rattle.erim_defs.specs.Output.Words.{Gen, Soak}
 use Rattle.command_words.specs.declared.command.Command.{Command}
 use Rattle.command_words.specs.declared.command.Command.TheVariants as code
 
@@ -10,6 +11,7 @@ meaning (code.Disasm image) = Disasm image.now
 meaning (code.Run image journal workers steps frames) =
     Run image.now journal.now workers steps frames
 meaning (code.Replay image journal) = Replay image.now journal.now
+meaning (code.Rewrite image out) = Rewrite image.now out.now
 meaning (code.Gen seed out) = Gen seed out.now
 meaning (code.Soak seed journal) = Soak seed journal.now
 
@@ -27,5 +29,6 @@ HasNumbers (code.Inspect image) = ⊤
 HasNumbers (code.Disasm image) = ⊤
 HasNumbers (code.Run image journal workers steps frames) = AreRunNumbers workers steps frames
 HasNumbers (code.Replay image journal) = ⊤
+HasNumbers (code.Rewrite image out) = ⊤
 HasNumbers (code.Gen seed out) = ⊤
 HasNumbers (code.Soak seed journal) = ⊤

@@ -27,6 +27,11 @@ pub enum Command<'a> {
         image: &'a str,
         journal: &'a str,
     },
+    /// Saves an image in which no sequence is unsafe, rewritten from another.
+    Rewrite {
+        image: &'a str,
+        out: &'a str,
+    },
     /// Saves the image that is made from a seed.
     Gen {
         seed: u64,

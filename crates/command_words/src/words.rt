@@ -5,7 +5,7 @@ ghost use Rattle.std.specs.Option.{option_map, option_and_then};
 ghost use Rattle.std.specs.String.{string_bytes};
 ghost use Rattle.erim_defs.specs.Output.Words.{meant, command_of, usages, inspect_usage};
 ghost use Rattle.erim_defs.specs.Output.Words.{disasm_usage, run_usage, replay_usage, gen_usage};
-ghost use Rattle.erim_defs.specs.Output.Words.{soak_usage};
+ghost use Rattle.erim_defs.specs.Output.Words.{rewrite_usage, soak_usage};
 ghost use Rattle.command_words.specs.Commands.{HasNumbers, meaning};
 
 use crate::command::Command;
@@ -20,6 +20,7 @@ usage: erim inspect IMAGE
        erim disasm IMAGE
        erim run IMAGE JOURNAL [--workers N] [--steps N] [--frames N]
        erim replay IMAGE JOURNAL
+       erim rewrite IMAGE OUT
        erim gen SEED OUT
        erim soak SEED JOURNAL
 workers: 1 to 8, or 4 if not given
@@ -135,6 +136,21 @@ fn replay_of<'a>(alloc: Global, words: &'a [String]) -> Result<Option<Command<'a
     }
 }
 
+/// The command `rewrite` with its words.
+fn rewrite_of<'a>(alloc: Global, words: &'a [String]) -> Result<Option<Command<'a>>, NoMemory>
+    ensures meant { IfOk result (λ command.
+        option_map meaning command ≡ meant (map string_bytes words.entry.now) rewrite_usage) }
+    ensures numbers { IfOk result (λ command. IfSome command HasNumbers) }
+{
+    match given(alloc, &[IMAGE, OUT], &[], words)? {
+        Some(found) => Ok(Some(Command::Rewrite {
+            image: text(&found, &IMAGE),
+            out: text(&found, &OUT),
+        })),
+        None => Ok(None),
+    }
+}
+
 /// The command `gen` with its words.
 fn gen_of<'a>(alloc: Global, words: &'a [String]) -> Result<Option<Command<'a>>, NoMemory>
     ensures meant { IfOk result (λ command.
@@ -187,6 +203,9 @@ fn named<'a>(
     }
     if word == "replay" {
         return replay_of(alloc, words);
+    }
+    if word == "rewrite" {
+        return rewrite_of(alloc, words);
     }
     if word == "gen" {
         return gen_of(alloc, words);

@@ -4,7 +4,8 @@ use Rattle.std.proofs.Common.{ap, append_assoc}
 use Rattle.std.proofs.lemmas.List.{append-nil}
 use Rattle.erim_defs.specs.declared.segment.Segment.{Segment}
 use Rattle.erim_defs.specs.declared.trust.Span.{Span}
-use Rattle.erim_defs.specs.Inspection.Image.{header_count, is_entry_record, is_loadable}
+use Rattle.erim_defs.specs.Inspection.Image.{Header, header_count, headers, is_entry_record}
+use Rattle.erim_defs.specs.Inspection.Image.{is_loadable}
 use Rattle.erim_defs.specs.Inspection.Image.{loadable_segments, segments, span_of, starts_of}
 use Rattle.elf_image.specs.declared.records.RecordTable.{RecordTable}
 use Rattle.elf_image.specs.Table.{header_of, headers_left}
@@ -12,6 +13,18 @@ use Rattle.elf_image.specs.Records.{record_of, records_left, table_records}
 use Rattle.elf_image.specs.Form.{spans_in}
 use Rattle.elf_image.proofs.TableLemmas.{headers_left-all, headers_left-next, headers_left-none}
 use Rattle.elf_image.proofs.RecordLemmas.{records_left-all, records_left-next, records_left-none}
+
+pub headers_begin : (bytes : List ℕ) → [] ++ headers_left bytes 0 ≡ headers bytes
+headers_begin bytes = headers_left-all bytes
+
+pub headers_take : (bytes : List ℕ) (index : ℕ) (list : List Header) → index < header_count bytes
+    → (list ++ header_of bytes index ∷ []) ++ headers_left bytes (index + 1)
+    ≡ list ++ headers_left bytes index
+headers_take bytes index list lt = rw (headers_left-next bytes index lt, append_assoc) refl
+
+pub headers_end : (bytes : List ℕ) (index : ℕ) (list : List Header) → header_count bytes ≤ index
+    → list ++ headers_left bytes index ≡ list
+headers_end bytes index list le = rw (headers_left-none bytes index le, append-nil list) refl
 
 pub segments_begin : (bytes : List ℕ)
     → [] ++ loadable_segments (headers_left bytes 0) ≡ segments bytes
@@ -87,6 +100,8 @@ entries_end bytes table index list past =
     rw (records_left-none bytes table index past) (append-nil list)
 
 -- ---- by function, for the goals of its loop
+
+pub ruleset headers_steps = (headers_begin, headers_take, headers_end)
 
 pub ruleset segments_steps = (segments_begin, segments_load, segments_pass, segments_end)
 

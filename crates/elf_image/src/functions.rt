@@ -11,7 +11,7 @@ use crate::field::header_count;
 use crate::header::Header;
 use erim_defs::field::u64_at;
 use erim_defs::note::{FUNCTION_LENGTH, FUNCTION_SIZE};
-use erim_defs::{ImageFault, Segment, Span};
+use erim_defs::{ImageFault, Span};
 
 /// Where the functions of a functions note stand, and how many.
 #[derive(Clone, Copy)]
@@ -91,19 +91,5 @@ fn holds(header: &Header, function: &Span) -> bool
     ensures { result ≡ (is_loadable header.now
         && holds_function function.now header.now.segment) }
 {
-    let segment = header.segment();
-    header.is_loadable() && segment.is_executable() && is_in_file_part(&segment, function)
-}
-
-// Neither sum may be made: both may pass 2^64.
-fn is_in_file_part(segment: &Segment, function: &Span) -> bool
-    ensures { result ≡ (nat_le segment.now.vaddr function.now.start
-        && nat_le (function.now.start + function.now.length)
-        (segment.now.vaddr + segment.now.filesz)) }
-{
-    if function.start < segment.vaddr {
-        return false;
-    }
-    let place = function.start - segment.vaddr;
-    place <= segment.filesz && function.length <= segment.filesz - place
+    header.is_loadable() && header.segment().holds_function(function)
 }

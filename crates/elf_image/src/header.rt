@@ -18,7 +18,7 @@ use std::marker::Model;
 
 /// A program header.
 #[derive(Drop)]
-pub(crate) struct Header {
+pub struct Header {
     kind: u32,
     align: u64,
     segment: Segment,
@@ -56,8 +56,15 @@ impl Header {
         }
     }
 
+    /// What it is of (p_type).
+    pub fn kind(&self) -> u32
+        ensures { result ≡ self.now.kind }
+    {
+        self.kind
+    }
+
     /// The segment that the header tells.
-    pub(crate) fn segment(&self) -> Segment
+    pub fn segment(&self) -> Segment
         ensures { result ≡ self.now.segment }
     {
         self.segment

@@ -1,19 +1,23 @@
 //! An image that was accepted.
 
 ghost use Rattle.std.specs.Prelude.{◌≡◌, ℕ, ◌<◌, ◌≤◌, ◌^◌, List, length, sum_by, false, IsTrue};
-ghost use Rattle.std.specs.Prelude.{MatchResult};
+ghost use Rattle.std.specs.Prelude.{IfOk, MatchResult};
 ghost use Rattle.std.specs.List.{All, AllPairs};
-ghost use Rattle.erim_defs.specs.Inspection.Image.{IsAccepted, IsPlaced, entry_point, image_data};
-ghost use Rattle.erim_defs.specs.Inspection.Image.{image_functions, image_heaps, image_trust};
+ghost use Rattle.erim_defs.specs.Inspection.Image.{IsAccepted, IsPlaced, entry_point, headers};
+ghost use Rattle.erim_defs.specs.Inspection.Image.{image_data, image_functions, image_heaps};
+ghost use Rattle.erim_defs.specs.Inspection.Image.{image_trust};
 ghost use Rattle.erim_defs.specs.Inspection.Image.{page_count, page_total, segments, shares_page};
 ghost use Rattle.erim_defs.specs.Encoding.Parts.{AreBytes};
+ghost use Rattle.erim_defs.specs.Rewriting.NewFile.{old_table};
 ghost use Rattle.elf_image.specs.Form.{IsSeen};
 
-use crate::field::entry_point;
-use crate::lists::{entries, functions, segments, spans};
+use crate::field::{entry_point, header_count, table_place};
+use crate::header::Header;
+use crate::lists::{entries, functions, headers, segments, spans};
 use crate::notes::NotesSeen;
+use erim_defs::elf::PROGRAM_HEADER_SIZE;
 use erim_defs::note::{TRUSTED_DATA, TRUSTED_HEAP, TRUSTED_TEXT};
-use erim_defs::{ImageFault, Segment, Span, Trust};
+use erim_defs::{ImageFault, NoMemory, Segment, Span, Trust};
 use std::alloc::Global;
 use std::marker::Model;
 
@@ -85,6 +89,24 @@ impl Image {
         ensures octets { AreBytes self.now }
     {
         self.bytes.as_slice()
+    }
+
+    /// The program headers in table order.
+    #[tactic(auto, using(crate::proofs::ImageLemmas::accepted_table))]
+    pub fn headers(&self, alloc: Global) -> Result<Vec<Header>, NoMemory>
+        ensures { IfOk result (λ list. list.items ≡ headers self.now) }
+    {
+        Ok(headers(alloc, self.bytes())?)
+    }
+
+    /// The bytes of their table.
+    #[tactic(auto, using(crate::proofs::ImageLemmas::accepted_table))]
+    pub fn header_table(&self) -> &[u8]
+        ensures { result.now ≡ old_table self.now }
+    {
+        let bytes = self.bytes();
+        let place = table_place(bytes) as usize;
+        &bytes[place..place + PROGRAM_HEADER_SIZE * header_count(bytes) as usize]
     }
 
     /// The loadable segments in table order.

@@ -24,5 +24,6 @@ mod record;
 mod records;
 
 pub use erim_defs::{ImageFault, Segment, Span, Trust};
+pub use header::Header;
 pub use image::Image;
 pub use image_reader::read_image;

@@ -1,7 +1,7 @@
 //! The lists that an image tells.
 
 ghost use Rattle.std.specs.Prelude.{◌≡◌, IfOk};
-ghost use Rattle.erim_defs.specs.Inspection.Image.{segments, starts_of};
+ghost use Rattle.erim_defs.specs.Inspection.Image.{headers, segments, starts_of};
 ghost use Rattle.elf_image.specs.Form.{spans_in};
 ghost use Rattle.elf_image.specs.Functions.{table_functions};
 ghost use Rattle.elf_image.specs.Notes.{HasFunctionsOf, HasTableOf};
@@ -15,6 +15,19 @@ use crate::record::Record;
 use crate::records::RecordTable;
 use erim_defs::{Segment, Span};
 use std::alloc::{AllocError, Global};
+
+/// The program headers in table order.
+#[tactic(auto, using(crate::proofs::ListLemmas::headers_steps))]
+pub(crate) fn headers(alloc: Global, bytes: &[u8]) -> Result<Vec<Header>, AllocError>
+    requires { HasTable bytes.now }
+    ensures { IfOk result (λ list. list.items ≡ headers bytes.now) }
+{
+    let mut list = Vec::new(alloc);
+    for index in 0..header_count(bytes) {
+        list.push(Header::read(bytes, index))?;
+    }
+    Ok(list)
+}
 
 /// The loadable segments in table order.
 #[tactic(auto, using(crate::proofs::ListLemmas::segments_steps))]

@@ -5,3 +5,4 @@ pub mod PlanLemmas
 pub mod PromiseLemmas
 pub mod ReplayLemmas
 pub mod ReportLemmas
+pub mod RewriteLemmas

@@ -6,6 +6,7 @@ use Rattle.erim_io.specs.Store.{Name, Files, Holds}
 use Rattle.erim_commands.specs.declared.reply.Status.{Status}
 use Rattle.erim_commands.specs.declared.reply.Status.TheVariants.{Done, AtFault, NotUnderstood}
 use Rattle.erim_commands.specs.declared.reply.Status.TheVariants.{ImageRefused, JournalRefused, Spent}
+use Rattle.erim_commands.specs.declared.reply.Status.TheVariants.{RewriteRefused}
 use Rattle.erim_commands.specs.Statuses.{code_of}
 use Rattle.erim_commands.specs.Replies.{Reply}
 use Rattle.erim_commands.specs.Plans.{Plan, Ask, Tell, end_of}
@@ -23,6 +24,7 @@ code_not_4 NotUnderstood e = omega (arith, e)
 code_not_4 ImageRefused e = omega (arith, e)
 code_not_4 JournalRefused e = omega (arith, e)
 code_not_4 Spent e = omega (arith, e)
+code_not_4 RewriteRefused e = omega (arith, e)
 
 pub code_not_5 : (s : Status) → code_of s ≢ 5
 code_not_5 Done e = omega (arith, e)
@@ -31,6 +33,7 @@ code_not_5 NotUnderstood e = omega (arith, e)
 code_not_5 ImageRefused e = omega (arith, e)
 code_not_5 JournalRefused e = omega (arith, e)
 code_not_5 Spent e = omega (arith, e)
+code_not_5 RewriteRefused e = omega (arith, e)
 
 module _ {A : Type 0} (IsAnswer : A → Reply → Type 0) where
   -- a delivery that was no fault is whole

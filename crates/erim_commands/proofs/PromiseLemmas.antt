@@ -1,7 +1,7 @@
 -- What the end of a call tells, command by command.
 use Rattle.std.proofs.Common.{◌≡◌, ◌≢◌, ◌⊎◌, ◌∙◌, List, ◌∷◌, ◌++◌, [], length, ℕ, Option, Some}
-use Rattle.std.proofs.Common.{None, eqb, sym, ap, refl, arith, inl, inr}
-use Rattle.std.specs.Prelude.{codes, ⊤, ◌↔◌}
+use Rattle.std.proofs.Common.{None, Result, Ok, Err, eqb, sym, ap, refl, arith, inl, inr}
+use Rattle.std.specs.Prelude.{codes, ⊤, ◌↔◌, ◌==◌, if◌then◌else◌}
 use Rattle.std.proofs.lemmas.Bool.{cases_Bool, eqb-true, eqb-false}
 use Rattle.std.proofs.lemmas.List.{length-append}
 use Rattle.erim_io.specs.Store.{Name, Files}
@@ -15,7 +15,11 @@ use Rattle.erim_defs.specs.Machine.State.{Setup, State}
 use Rattle.erim_defs.specs.Output.Journal.{JournalValue, journal_of}
 use Rattle.erim_defs.specs.Output.MadeTexts.{soak_line}
 use Rattle.erim_defs.specs.Output.Report.{report}
-use Rattle.erim_defs.specs.Output.Words.{Command, Inspect, Disasm, Run, Replay, Gen, Soak}
+use Rattle.erim_defs.specs.Output.RewriteTexts.{rewrite_text}
+use Rattle.erim_defs.specs.Output.Words.{Command, Inspect, Disasm, Run, Replay, Rewrite, Gen, Soak}
+use Rattle.erim_defs.specs.Rewriting.Rewriting.{Rewritten, NotImage, Cannot, NoRoom, rewriting}
+use Rattle.erim_defs.specs.Rewriting.Rewriting as definitions
+use Rattle.rewriting_laws.specs.QuietLaws.{AnswerLaw}
 use Rattle.thread_runner.specs.declared.replays.ReplayFault.{ReplayFault}
 use Rattle.thread_runner.specs.declared.replays.ReplayFault.TheVariants.{Start, PastEnd}
 use Rattle.thread_runner.specs.declared.replays.ReplayFault.TheVariants.{PastBudget, NotLive}
@@ -23,21 +27,23 @@ use Rattle.thread_runner.specs.declared.replays.ReplayFault.TheVariants.{Unfinis
 use Rattle.thread_runner.specs.Replays.{replay_fault}
 use Rattle.erim_commands.specs.declared.reply.Status.{Status}
 use Rattle.erim_commands.specs.declared.reply.Status.TheVariants.{NotUnderstood, ImageRefused}
-use Rattle.erim_commands.specs.declared.reply.Status.TheVariants.{JournalRefused}
+use Rattle.erim_commands.specs.declared.reply.Status.TheVariants.{JournalRefused, RewriteRefused}
 use Rattle.erim_commands.specs.Statuses.{code_of}
 use Rattle.erim_commands.specs.Replies.{Saved, Reply, Answer, One, Ran, Replayed, IsAnswer, told}
 use Rattle.erim_commands.specs.Replies.{start_refusal, break_status, break_text, list_status}
-use Rattle.erim_commands.specs.Replies.{listed_reply}
+use Rattle.erim_commands.specs.Replies.{listed_reply, rewrite_status, rewritten_reply}
 use Rattle.erim_commands.specs.Replies.{disasm_reply, gen_reply, end_status, ran_reply}
 use Rattle.erim_commands.specs.Replies.{replayed_reply}
 use Rattle.erim_commands.specs.Plans.{Plan, Tell, unless, end_of}
 use Rattle.erim_commands.specs.Commands.{Format, image_format, journal_format, refused, with_file}
 use Rattle.erim_commands.specs.Commands.{started_run, started_replay, run_setup, replay_setup}
-use Rattle.erim_commands.specs.Commands.{soak_setup, refused_break, plan_of, plan_for}
+use Rattle.erim_commands.specs.Commands.{soak_setup, refused_break, rewrite_plan, plan_of}
+use Rattle.erim_commands.specs.Commands.{plan_for}
 use Rattle.erim_commands.specs.Delivery.{World, IsAnswered, HasNotKept, Carries}
 use Rattle.erim_commands.specs.Promises.{IsReplying, IsReplied, TellsWords, TellsRefusal}
 use Rattle.erim_commands.specs.Promises.{reading_refusal, refusal, IsAbout, IsRefusedAs, Shows}
-use Rattle.erim_commands.specs.Promises.{ShowsRun, ShowsReplay, TellsWork, IsLoadedBy, IsSavedBy}
+use Rattle.erim_commands.specs.Promises.{ShowsRun, ShowsReplay, ShowsRewritten}
+use Rattle.erim_commands.specs.Promises.{TellsWork, IsLoadedBy, IsSavedBy}
 use Rattle.erim_commands.specs.Promises.{GainsLoad, GainsSave, TellsFault, IsComplete}
 use Rattle.erim_commands.proofs.PlanLemmas.{tells_end, Always, always_replied, Failure}
 use Rattle.erim_commands.proofs.PlanLemmas.{always_failed}
@@ -67,15 +73,18 @@ known : (command : Command) (n : ℕ) → n ≢ 2 → (n ≡ 2 → Some command 
     → n ≡ 2)
 known command n other = (λ two. absurd (other two), λ none. absurd cc)
 
--- the status with which a file or a journal is refused
+-- the statuses with which an image or a journal is refused
 abbrev Refuses : Status → Type 0
-Refuses status = (status ≡ ImageRefused) ⊎ (status ≡ JournalRefused)
+Refuses status =
+    (status ≡ ImageRefused) ⊎ ((status ≡ JournalRefused) ⊎ (status ≡ RewriteRefused))
 
 refuses_not_2 : (status : Status) → Refuses status → code_of status ≢ 2
 refuses_not_2 status (inl image) two =
     (let three : code_of status ≡ 3 = rw image refl in omega (arith, two, three))
-refuses_not_2 status (inr journal) two =
+refuses_not_2 status (inr (inl journal)) two =
     (let six : code_of status ≡ 6 = rw journal refl in omega (arith, two, six))
+refuses_not_2 status (inr (inr rewrite)) two =
+    (let eight : code_of status ≡ 8 = rw rewrite refl in omega (arith, two, eight))
 
 -- a reply of one answer
 one_reply : (a : Answer) (r reply : Reply) → a ≡ One r → IsAnswer a reply → reply ≡ r
@@ -166,10 +175,10 @@ not_understood_own reply is =
 
 break_refuses : (fault : ReplayFault) → Refuses (break_status fault)
 break_refuses (Start fault) = inl refl
-break_refuses (PastEnd index) = inr refl
-break_refuses (PastBudget index) = inr refl
-break_refuses (NotLive index) = inr refl
-break_refuses Unfinished = inr refl
+break_refuses (PastEnd index) = inr (inl refl)
+break_refuses (PastBudget index) = inr (inl refl)
+break_refuses (NotLive index) = inr (inl refl)
+break_refuses Unfinished = inr (inl refl)
 
 replay_own : (command : Command) (journal : Name) (bytes : List ℕ)
     → IsLoadedBy (Some command) journal
@@ -177,11 +186,24 @@ replay_own : (command : Command) (journal : Name) (bytes : List ℕ)
     (λ j. started_replay (replay_setup bytes j) j.entries))
 replay_own command journal bytes loads =
     file_own command journal_format journal
-    (λ j. started_replay (replay_setup bytes j) j.entries) (inr refl) loads
+    (λ j. started_replay (replay_setup bytes j) j.entries) (inr (inl refl)) loads
     (λ j. unless_own command (replay_fault (replay_setup bytes j) j.entries) refused_break
     (Tell (Replayed (replay_setup bytes j) j.entries))
     (λ fault. refused_own command (break_status fault) (break_text fault) (break_refuses fault))
     (replayed_own command (replay_setup bytes j) j.entries))
+
+rewrite_refuses : (fault : definitions.Fault) → Refuses (rewrite_status fault)
+rewrite_refuses (NotImage fault) = inl refl
+rewrite_refuses (Cannot at why) = inr (inr refl)
+rewrite_refuses (NoRoom at) = inr (inr refl)
+
+rewrite_own : (image out : Name) (answer : Result Rewritten definitions.Fault)
+    → AreOwn (Some (Rewrite image out)) (rewrite_plan out answer)
+rewrite_own image out (Ok r) =
+    one_own (Rewrite image out) (rewritten_reply out r) (omega arith) refl
+rewrite_own image out (Err fault) =
+    refused_own (Rewrite image out) (rewrite_status fault) (rewrite_text fault)
+    (rewrite_refuses fault)
 
 pub plan_own : (words : Option Command) → AreOwn words (plan_for words)
 plan_own None = not_understood_own
@@ -200,6 +222,8 @@ plan_own (Some (Run image journal workers steps frames)) =
 plan_own (Some (Replay image journal)) =
     let command = Replay image journal in
     image_own command image _ (inl refl) (λ bytes. replay_own command journal bytes (inr refl))
+plan_own (Some (Rewrite image out)) =
+    image_own (Rewrite image out) image _ refl (λ bytes. rewrite_own image out (rewriting bytes))
 plan_own (Some (Gen seed out)) = one_own (Gen seed out) (gen_reply seed out) (omega arith) refl
 plan_own (Some (Soak seed journal)) =
     ran_own (Soak seed journal) (λ entries s. soak_line seed s) journal (soak_setup seed) refl
@@ -248,6 +272,9 @@ IsWorkEnd (Replay image journal) files a =
     (bytes saved : List ℕ) × (files image ≡ Some bytes) × (files journal ≡ Some saved)
     × (reading_refusal journal_format saved ≡ None)
     × (a ≡ Replayed (replay_setup bytes (journal_of saved)) (journal_of saved).entries)
+IsWorkEnd (Rewrite image out) files a =
+    (bytes : List ℕ) × (files image ≡ Some bytes)
+    × ((r : Rewritten) × (rewriting bytes ≡ Ok r) × (a ≡ One (rewritten_reply out r)))
 IsWorkEnd (Gen seed out) files a = a ≡ One (gen_reply seed out)
 IsWorkEnd (Soak seed journal) files a =
     a ≡ Ran (λ entries s. soak_line seed s) journal (soak_setup seed)
@@ -347,7 +374,7 @@ plan_end (Replay image journal) files a end =
         → IsRead journal_format journal (then_ bytes) files a
         → IsEnd (Replay image journal) files a
     loaded bytes there fine (saved, here, inl (text, bad, is)) =
-        inl (JournalRefused, text, inr refl, rw (there, fine, here, bad) refl, is)
+        inl (JournalRefused, text, inr (inl refl), rw (there, fine, here, bad) refl, is)
     loaded bytes there fine (saved, here, inr (spelled, ends)) =
         made bytes saved there fine here spelled
         (unless_end (replay_fault (replay_setup bytes (journal_of saved)) (journal_of saved).entries)
@@ -358,6 +385,30 @@ plan_end (Replay image journal) files a end =
         inl (ImageRefused, text, inl refl, rw (there, bad) refl, is)
     by (bytes, there, inr (fine, ends)) =
         loaded bytes there fine (file_end journal_format journal (then_ bytes) files a ends)
+plan_end (Rewrite image out) files a end =
+    by (file_end image_format image (λ bytes. rewrite_plan out (rewriting bytes)) files a end)
+  where
+    answered : (bytes : List ℕ) (answer : Result Rewritten definitions.Fault)
+        → files image ≡ Some bytes → reading_refusal image_format bytes ≡ None
+        → rewriting bytes ≡ answer → end_of (rewrite_plan out answer) files ≡ Some a
+        → IsEnd (Rewrite image out) files a
+    answered bytes (Ok r) there fine is ends =
+        inr (rw (there, fine, is) refl, (bytes, there, (r, is, some_is _ _ ends)))
+    answered bytes (Err fault) there fine is ends =
+        inl (
+          rewrite_status fault,
+          rewrite_text fault,
+          rewrite_refuses fault,
+          rw (there, fine, is) refl,
+          some_is _ _ ends,
+        )
+
+    by : IsRead image_format image (λ bytes. rewrite_plan out (rewriting bytes)) files a
+        → IsEnd (Rewrite image out) files a
+    by (bytes, there, inl (text, bad, is)) =
+        inl (ImageRefused, text, inl refl, rw (there, bad) refl, is)
+    by (bytes, there, inr (fine, ends)) =
+        answered bytes (rewriting bytes) there fine refl ends
 plan_end (Gen seed out) files a end = inr (refl, some_is _ _ end)
 plan_end (Soak seed journal) files a end = inr (refl, some_is _ _ end)
 
@@ -416,6 +467,9 @@ work_done (Replay image journal) files a old new status (bytes, saved, there, he
     let ran : IsAnswer (Replayed (replay_setup bytes (journal_of saved)) (journal_of saved).entries)
     replied.reply = rw is at replied.answer in
     done_by _ replied.reply status replied.code ran.answer (end_done ran.last.end)
+work_done (Rewrite image out) files a old new status (bytes, there, (r, made, is)) replied =
+    done_by _ replied.reply status replied.code (one_reply a _ replied.reply is replied.answer)
+    (inl refl)
 work_done (Gen seed out) files a old new status is replied =
     done_by _ replied.reply status replied.code (one_reply a _ replied.reply is replied.answer)
     (inl refl)
@@ -434,7 +488,7 @@ refuses_not_done why n (inl image) done same = by done
     by (inl zero) = omega (arith, three, zero)
     by (inr (inl one)) = omega (arith, three, one)
     by (inr (inr seven)) = omega (arith, three, seven)
-refuses_not_done why n (inr journal) done same = by done
+refuses_not_done why n (inr (inl journal)) done same = by done
   where
     six : n ≡ 6
     six = same ∙ (rw journal refl)
@@ -443,15 +497,28 @@ refuses_not_done why n (inr journal) done same = by done
     by (inl zero) = omega (arith, six, zero)
     by (inr (inl one)) = omega (arith, six, one)
     by (inr (inr seven)) = omega (arith, six, seven)
+refuses_not_done why n (inr (inr rewrite)) done same = by done
+  where
+    eight : n ≡ 8
+    eight = same ∙ (rw rewrite refl)
+
+    by : IsDone n → ⊥
+    by (inl zero) = omega (arith, eight, zero)
+    by (inr (inl one)) = omega (arith, eight, one)
+    by (inr (inr seven)) = omega (arith, eight, seven)
+
+-- the status that refuses with a number
+abbrev refusing : ℕ → Status
+refusing n = if n == 3 then ImageRefused else if n == 6 then JournalRefused else RewriteRefused
+
+refuses_by : (s : Status) → Refuses s → refusing (code_of s) ≡ s
+refuses_by s (inl image) = rw image refl
+refuses_by s (inr (inl journal)) = rw journal refl
+refuses_by s (inr (inr rewrite)) = rw rewrite refl
 
 -- two statuses that refuse are one where their numbers are
 one_status : (s t : Status) → Refuses s → Refuses t → code_of s ≡ code_of t → s ≡ t
-one_status s t (inl p) (inl q) same = p ∙ sym q
-one_status s t (inr p) (inr q) same = p ∙ sym q
-one_status s t (inl p) (inr q) same =
-    absurd (let bad : 3 ≡ 6 = rw (p, q) at same in omega (arith, bad))
-one_status s t (inr p) (inl q) same =
-    absurd (let bad : 6 ≡ 3 = rw (p, q) at same in omega (arith, bad))
+one_status s t p q same = sym (refuses_by s p) ∙ (ap refusing same ∙ refuses_by t q)
 
 refused_status : (why : Status) (command : Command) (files : Files) (a : Answer) (old new : World)
     (status : ℕ) → Refuses why → IsEnd command files a → IsReplied IsAnswer a old new status
@@ -519,9 +586,9 @@ shown_run told_of journal bytes steps frames a old new status fine can is replie
 
 -- a reply that was delivered whole shows what the command found
 shown : (command : Command) (files : Files) (a : Answer) (old new : World) (status : ℕ)
-    → IsWorkEnd command files a → IsReplied IsAnswer a old new status
+    → AnswerLaw → IsWorkEnd command files a → IsReplied IsAnswer a old new status
     → Shows command files old new status
-shown (Inspect image) files a old new status (bytes, there, is) replied =
+shown (Inspect image) files a old new status law (bytes, there, is) replied =
     let r = one_reply a (listed_reply (image_list bytes)) replied.reply is replied.answer in (
       bytes,
       there,
@@ -530,7 +597,7 @@ shown (Inspect image) files a old new status (bytes, there, is) replied =
         text = rw r at replied.whole.text;
       },
     )
-shown (Disasm image) files a old new status (bytes, there, is) replied =
+shown (Disasm image) files a old new status law (bytes, there, is) replied =
     let r = one_reply a (disasm_reply bytes) replied.reply is replied.answer in (
       bytes,
       there,
@@ -539,14 +606,14 @@ shown (Disasm image) files a old new status (bytes, there, is) replied =
         text = rw r at replied.whole.text;
       },
     )
-shown (Run image journal workers steps frames) files a old new status
+shown (Run image journal workers steps frames) files a old new status law
     (bytes, there, fine, can, is) replied = (
       bytes,
       there,
       shown_run report journal bytes steps frames a old new status fine can is replied,
     )
-shown (Replay image journal) files a old new status (bytes, saved, there, here, spelled, is)
-    replied =
+shown (Replay image journal) files a old new status law
+    (bytes, saved, there, here, spelled, is) replied =
     let j = journal_of saved in
     let ran : IsAnswer (Replayed (replay_setup bytes j) j.entries) replied.reply =
     rw is at replied.answer in
@@ -563,7 +630,21 @@ shown (Replay image journal) files a old new status (bytes, saved, there, here, 
       spelling = saved_spelling saved spelled;
     } in
     (bytes, saved, there, here, shows)
-shown (Gen seed out) files a old new status is replied =
+shown (Rewrite image out) files a old new status law (bytes, there, (r, made, is)) replied =
+    let same = one_reply a (rewritten_reply out r) replied.reply is replied.answer in
+    let whole : IsAnswered (rewritten_reply out r) old new = rw same at replied.whole in
+    let clean = law bytes r made in
+    let shows : ShowsRewritten bytes out old new status = record {
+      is = r;
+      made = made;
+      accepted = clean.0;
+      clean = clean.1;
+      answer = replied.code ∙ ap (λ (x : Reply). code_of x.status) same;
+      saved = whole.store.held;
+      text = whole.text;
+    } in
+    (bytes, there, shows)
+shown (Gen seed out) files a old new status law is replied =
     let r = one_reply a (gen_reply seed out) replied.reply is replied.answer in
     let whole : IsAnswered (gen_reply seed out) old new = rw r at replied.whole in
     record {
@@ -571,31 +652,31 @@ shown (Gen seed out) files a old new status is replied =
       saved = whole.store.held;
       text = whole.text;
     }
-shown (Soak seed journal) files a old new status is replied =
+shown (Soak seed journal) files a old new status law is replied =
     shown_run (λ entries s. soak_line seed s) journal _ 1000000 1024 a old new status
     (seed_accepted seed) (seed_starts seed) is replied
 
-pub tells_work : (words : Option Command) (old new : World) (status : ℕ)
+pub tells_work : (words : Option Command) (old new : World) (status : ℕ) → AnswerLaw
     → Carries IsAnswer (plan_for words) old new status → TellsWork words old new status
-tells_work words old new status carries command files about taken replying =
+tells_work words old new status law carries command files about taken replying =
     let e = ended words command files old new status carries about replying in
     by e e.end
   where
     by : (e : HasEnded command files old new status) → IsEnd command files e.a
         → Shows command files old new status
     by e (inl (st, text, refuses, cause, is)) = absurd (let bad = sym taken ∙ cause in cc)
-    by e (inr (none, work)) = shown command files e.a old new status work e.replied
+    by e (inr (none, work)) = shown command files e.a old new status law work e.replied
 
-pub tells_complete : (words : Option Command) (old new : World) (status : ℕ)
+pub tells_complete : (words : Option Command) (old new : World) (status : ℕ) → AnswerLaw
     → Carries IsAnswer (plan_for words) old new status → IsComplete words old new status
-tells_complete words old new status carries command files about taken clean =
+tells_complete words old new status law carries command files about taken clean =
     elim (cases_Bool (eqb status 5)) [
       | inl five ↦ inl (eqb-true _ _ five)
       | inr other ↦ elim (cases_Bool (eqb status 4)) [
         | inl four ↦ absurd (no_fault
             (tells_fault words old new status carries (eqb-true _ _ four)))
-        | inr neither ↦ inr (tells_work words old new status carries command files about taken
-            (eqb-false _ _ neither, eqb-false _ _ other))
+        | inr neither ↦ inr (tells_work words old new status law carries command files about
+            taken (eqb-false _ _ neither, eqb-false _ _ other))
       ]
     ]
   where

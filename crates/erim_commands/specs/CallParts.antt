@@ -5,7 +5,13 @@ use Rattle.std.specs.Io.KnownBytes.{Appends}
 use Rattle.erim_io.specs.Store.{Name, Files, Holds, noted_save, LeavesHeld}
 use Rattle.erim_io.specs.Sink.{HasRisen, AppendsPart}
 use Rattle.erim_io.specs.declared.store.SaveFault.{SaveFault}
+use Rattle.erim_defs.specs.declared.fault.ImageFault.TheVariants as faults
 use Rattle.erim_defs.specs.declared.memory.NoMemory.{NoMemory}
+use Rattle.erim_defs.specs.Rewriting.Rewriting.{Fault, NotImage}
+use Rattle.erim_defs.specs.Rewriting.Rewriting as definitions
+use Rattle.overlap_rewrite.specs.declared.rewriting.RewriteFault.{RewriteFault}
+use Rattle.overlap_rewrite.specs.declared.rewriting.RewriteFault.TheVariants.{Image, Cannot}
+use Rattle.overlap_rewrite.specs.declared.rewriting.RewriteFault.TheVariants.{NoRoom, Memory}
 use Rattle.erim_commands.specs.declared.reply.Reply.{Reply as Made}
 use Rattle.erim_commands.specs.declared.reply.Save.{Save as File}
 use Rattle.erim_commands.specs.Replies.{Saved, Reply, Answer, IsAnswer}
@@ -21,6 +27,15 @@ save_of (Some file) = Some (record { name = file.name.now; bytes = file.bytes.it
 
 abbrev pub reply_of : Made → Reply
 reply_of r = record { status = r.status; text = r.text.items; save = save_of r.save }
+
+-- ---- a cause of the code
+
+-- for which an image isn't rewritten; want of memory is never told
+abbrev pub fault_of : RewriteFault → Fault
+fault_of (Image fault) = NotImage fault
+fault_of (Cannot at why) = definitions.Cannot at why
+fault_of (NoRoom at) = definitions.NoRoom at
+fault_of Memory = NotImage faults.Memory
 
 -- ---- puts, saves and loads
 

@@ -1,5 +1,5 @@
 -- The plan of each command: what it loads, in the order of its loads, and what it answers. Own.
-use Rattle.std.specs.Prelude.{ℕ, Option, Some, None, List, codes}
+use Rattle.std.specs.Prelude.{ℕ, Option, Some, None, List, Result, Ok, Err, codes}
 use Rattle.erim_io.specs.Store.{Name}
 use Rattle.erim_defs.specs.declared.machine.Entry.{Entry}
 use Rattle.erim_defs.specs.Inspection.Unsafe.{image_list}
@@ -8,7 +8,9 @@ use Rattle.erim_defs.specs.Output.Journal.{JournalValue, journal_of}
 use Rattle.erim_defs.specs.Output.MadeImage.{seed_image}
 use Rattle.erim_defs.specs.Output.MadeTexts.{soak_line}
 use Rattle.erim_defs.specs.Output.Report.{report}
-use Rattle.erim_defs.specs.Output.Words.{Command, Inspect, Disasm, Run, Replay, Gen, Soak}
+use Rattle.erim_defs.specs.Output.RewriteTexts.{rewrite_text}
+use Rattle.erim_defs.specs.Output.Words.{Command, Inspect, Disasm, Run, Replay, Rewrite, Gen, Soak}
+use Rattle.erim_defs.specs.Rewriting.Rewriting.{Fault, Rewritten, rewriting}
 use Rattle.thread_runner.specs.declared.replays.ReplayFault.{ReplayFault}
 use Rattle.thread_runner.specs.Replays.{replay_fault}
 use Rattle.erim_commands.specs.declared.reply.Status.{Status}
@@ -17,7 +19,8 @@ use Rattle.erim_commands.specs.declared.reply.Status.TheVariants.{JournalRefused
 use Rattle.erim_commands.specs.Plans.{Plan, Ask, Tell, unless}
 use Rattle.erim_commands.specs.Replies.{Answer, One, Ran, Replayed, told, image_fault}
 use Rattle.erim_commands.specs.Replies.{start_refusal, journal_refusal, break_status, break_text}
-use Rattle.erim_commands.specs.Replies.{listed_reply, disasm_reply, gen_reply}
+use Rattle.erim_commands.specs.Replies.{listed_reply, disasm_reply, rewrite_status}
+use Rattle.erim_commands.specs.Replies.{rewritten_reply, gen_reply}
 
 -- ---- files that commands load
 
@@ -77,6 +80,11 @@ abbrev pub started_replay : Setup → List Entry → Plan Answer
 started_replay setup entries =
     unless (replay_fault setup entries) refused_break (Tell (Replayed setup entries))
 
+-- saves a rewritten image
+abbrev pub rewrite_plan : Name → Result Rewritten Fault → Plan Answer
+rewrite_plan out (Ok r) = Tell (One (rewritten_reply out r))
+rewrite_plan out (Err fault) = Tell (refused (rewrite_status fault) (rewrite_text fault))
+
 -- ---- commands
 
 abbrev pub run_setup : List ℕ → ℕ → ℕ → Setup
@@ -103,6 +111,8 @@ plan_of (Replay image journal) =
     with_file image_format image
     (λ bytes. with_file journal_format journal
     (λ j. started_replay (replay_setup bytes j) j.entries))
+plan_of (Rewrite image out) =
+    with_file image_format image (λ bytes. rewrite_plan out (rewriting bytes))
 plan_of (Gen seed out) = Tell (One (gen_reply seed out))
 plan_of (Soak seed journal) = Tell (Ran (λ entries s. soak_line seed s) journal (soak_setup seed))
 

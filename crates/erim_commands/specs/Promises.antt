@@ -1,6 +1,6 @@
 -- What the end of a call tells, status by status: of each plan, and of each command.
 use Rattle.std.specs.Prelude.{◌≡◌, ◌≢◌, ◌⊎◌, ◌↔◌, nat_lt, ℕ, Option, Some, None, List, []}
-use Rattle.std.specs.Prelude.{◌∷◌, ◌++◌, length, if◌then◌else◌}
+use Rattle.std.specs.Prelude.{◌∷◌, ◌++◌, length, Result, Ok, Err, if◌then◌else◌}
 use Rattle.std.specs.Option.{option_map}
 use Rattle.std.specs.Io.KnownBytes.{Appends}
 use Rattle.erim_io.specs.Store.{Name, Files, holding}
@@ -9,6 +9,7 @@ use Rattle.erim_defs.specs.declared.machine.Entry.{Entry}
 use Rattle.erim_defs.specs.Encoding.Disasm.{disasm_text}
 use Rattle.erim_defs.specs.Encoding.Parts.{AreBytes}
 use Rattle.erim_defs.specs.Inspection.Code.{or_else}
+use Rattle.erim_defs.specs.Inspection.Image.{IsAccepted}
 use Rattle.erim_defs.specs.Inspection.Unsafe.{image_list}
 use Rattle.erim_defs.specs.Machine.State.{Setup, State}
 use Rattle.erim_defs.specs.Output.Journal.{IsJournal, journal_of, journal_text}
@@ -16,7 +17,9 @@ use Rattle.erim_defs.specs.Output.MadeImage.{seed_image}
 use Rattle.erim_defs.specs.Output.MadeTexts.{gen_line, soak_line}
 use Rattle.erim_defs.specs.Output.Report.{report}
 use Rattle.erim_defs.specs.Output.Texts.{inspect_text}
-use Rattle.erim_defs.specs.Output.Words.{Command, Inspect, Disasm, Run, Replay, Gen, Soak}
+use Rattle.erim_defs.specs.Output.RewriteTexts.{rewrite_text, rewrote_line}
+use Rattle.erim_defs.specs.Output.Words.{Command, Inspect, Disasm, Run, Replay, Rewrite, Gen, Soak}
+use Rattle.erim_defs.specs.Rewriting.Rewriting.{Fault, Rewritten, rewriting}
 use Rattle.thread_runner.specs.Replays.{replay_fault}
 use Rattle.erim_commands.specs.declared.reply.Status.{Status}
 use Rattle.erim_commands.specs.declared.reply.Status.TheVariants.{ImageRefused, JournalRefused}
@@ -24,6 +27,7 @@ use Rattle.erim_commands.specs.Statuses.{code_of}
 use Rattle.erim_commands.specs.Replies.{Answer, IsAnswer, Reply, told, start_refusal}
 use Rattle.erim_commands.specs.Replies.{break_status, break_text, list_status, end_status}
 use Rattle.erim_commands.specs.Replies.{run_journal, IsWholeRun, IsOwnRun, replayed_reply}
+use Rattle.erim_commands.specs.Replies.{rewrite_status}
 use Rattle.erim_commands.specs.Plans.{Plan, end_of}
 use Rattle.erim_commands.specs.Commands.{Format, image_format, journal_format, plan_of, run_setup}
 use Rattle.erim_commands.specs.Commands.{replay_setup, soak_setup}
@@ -96,6 +100,11 @@ saved_refusal bytes saved =
     or_else (refused_as JournalRefused (reading_refusal journal_format saved))
     (replay_refusal (replay_setup bytes (journal_of saved)) (journal_of saved).entries)
 
+-- the reply that says why there is no rewritten image, where there is none
+abbrev pub rewriting_refusal : Result Rewritten Fault → Option Reply
+rewriting_refusal (Ok r) = None
+rewriting_refusal (Err fault) = Some (told (rewrite_status fault) (rewrite_text fault))
+
 -- why a command does nothing, over files that the store tells: the first cause in its order
 unfoldable pub refusal : Command → Files → Option Reply
 refusal (Inspect image) files =
@@ -110,6 +119,10 @@ refusal (Replay image journal) files =
     of_file (files image)
     (λ bytes. or_else (refused_as ImageRefused (reading_refusal image_format bytes))
     (of_file (files journal) (saved_refusal bytes)))
+refusal (Rewrite image out) files =
+    of_file (files image)
+    (λ bytes. or_else (refused_as ImageRefused (reading_refusal image_format bytes))
+    (rewriting_refusal (rewriting bytes)))
 refusal (Gen seed out) files = None
 refusal (Soak seed journal) files = None
 
@@ -123,7 +136,8 @@ pub record IsAbout (words : Option Command) (command : Command) (old : World) (f
 abbrev pub IsRefusedAs : Status → Option Reply → Type 0
 IsRefusedAs status refusal = (text : List ℕ) × (refusal ≡ Some (told status text))
 
--- 3 exactly where the image is refused, and 6 exactly where the journal is
+-- 3 exactly where the image is refused, 6 exactly where the journal is, and 8 exactly where an
+-- accepted image can't be rewritten
 abbrev pub TellsRefusal : Status → Option Command → World → ℕ → Type 0
 TellsRefusal why words old status =
     (command : Command) (files : Files) → IsAbout words command old files → IsReplying status
@@ -175,6 +189,18 @@ pub record ShowsReplay (bytes saved : List ℕ) (old new : World) (status : ℕ)
   pub spelling : AreBytes saved
       → IsJournal (journal_of saved) × (saved ≡ journal_text (journal_of saved))
 
+-- the rewritten image was saved under its name, and nothing else: it is accepted, and nothing of it
+-- is unsafe; at how many sites it was rewritten was added to what was written
+pub record ShowsRewritten (bytes : List ℕ) (out : Name) (old new : World)
+    (status : ℕ) : Type 0 where
+  pub is : Rewritten
+  pub made : rewriting bytes ≡ Ok is
+  pub accepted : IsAccepted is.bytes
+  pub clean : image_list is.bytes ≡ []
+  pub answer : status ≡ 0
+  pub saved : new.held ≡ holding out is.bytes old.held
+  pub text : Appends old.written new.written (rewrote_line (length is.runs))
+
 -- the made image was saved under its name, and nothing else; its line was added
 pub record ShowsImage (seed : ℕ) (out : Name) (old new : World) (status : ℕ) : Type 0 where
   pub answer : status ≡ 0
@@ -196,6 +222,8 @@ Shows (Replay image journal) files old new status =
     × (files image ≡ Some bytes)
     × (files journal ≡ Some saved)
     × ShowsReplay bytes saved old new status
+Shows (Rewrite image out) files old new status =
+    (bytes : List ℕ) × (files image ≡ Some bytes) × ShowsRewritten bytes out old new status
 Shows (Gen seed out) files old new status = ShowsImage seed out old new status
 Shows (Soak seed journal) files old new status =
     ShowsRun (λ entries s. soak_line seed s) journal (soak_setup seed) old new status
@@ -215,6 +243,7 @@ IsLoadedBy (Some (Inspect image)) name = name ≡ image
 IsLoadedBy (Some (Disasm image)) name = name ≡ image
 IsLoadedBy (Some (Run image journal workers steps frames)) name = name ≡ image
 IsLoadedBy (Some (Replay image journal)) name = (name ≡ image) ⊎ (name ≡ journal)
+IsLoadedBy (Some (Rewrite image out)) name = name ≡ image
 IsLoadedBy (Some (Gen seed out)) name = ⊥
 IsLoadedBy (Some (Soak seed journal)) name = ⊥
 
@@ -225,6 +254,7 @@ IsSavedBy (Some (Inspect image)) name = ⊥
 IsSavedBy (Some (Disasm image)) name = ⊥
 IsSavedBy (Some (Run image journal workers steps frames)) name = name ≡ journal
 IsSavedBy (Some (Replay image journal)) name = ⊥
+IsSavedBy (Some (Rewrite image out)) name = name ≡ out
 IsSavedBy (Some (Gen seed out)) name = name ≡ out
 IsSavedBy (Some (Soak seed journal)) name = name ≡ journal
 

@@ -16,8 +16,11 @@ use Rattle.erim_defs.specs.Output.Journal.{JournalValue, IsJournal, journal_text
 use Rattle.erim_defs.specs.Output.MadeImage.{seed_image}
 use Rattle.erim_defs.specs.Output.MadeTexts.{gen_line}
 use Rattle.erim_defs.specs.Output.Report.{report}
+use Rattle.erim_defs.specs.Output.RewriteTexts.{rewrote_line}
 use Rattle.erim_defs.specs.Output.Texts.{inspect_text, fault_text, journal_fault_text, kind_text}
 use Rattle.erim_defs.specs.Output.Texts.{address_text, error_line}
+use Rattle.erim_defs.specs.Rewriting.Rewriting.{Rewritten, NotImage, Cannot, NoRoom}
+use Rattle.erim_defs.specs.Rewriting.Rewriting as definitions
 use Rattle.erim_process.specs.declared.start_fault.StartFault.{StartFault}
 use Rattle.erim_process.specs.declared.start_fault.StartFault.TheVariants.{TrustedUnsafe}
 use Rattle.erim_process.specs.declared.start_fault.StartFault.TheVariants.{TooFewFrames, Memory}
@@ -31,6 +34,7 @@ use Rattle.isolation.specs.Laws.{AreLawful}
 use Rattle.erim_commands.specs.declared.reply.Status.{Status}
 use Rattle.erim_commands.specs.declared.reply.Status.TheVariants.{Done, AtFault, Spent}
 use Rattle.erim_commands.specs.declared.reply.Status.TheVariants.{ImageRefused, JournalRefused}
+use Rattle.erim_commands.specs.declared.reply.Status.TheVariants.{RewriteRefused}
 
 -- a file to save
 pub record Saved : Type 0 where
@@ -86,6 +90,12 @@ break_status (PastEnd index) = JournalRefused
 break_status (PastBudget index) = JournalRefused
 break_status (NotLive index) = JournalRefused
 break_status Unfinished = JournalRefused
+
+-- it is the image that isn't accepted, or that can't be rewritten
+abbrev pub rewrite_status : definitions.Fault → Status
+rewrite_status (NotImage fault) = ImageRefused
+rewrite_status (Cannot at why) = RewriteRefused
+rewrite_status (NoRoom at) = RewriteRefused
 
 -- ---- inspect
 
@@ -161,6 +171,16 @@ pub record IsReplayReply (setup : Setup) (entries : List Entry) (reply : Reply) 
   pub last : State
   pub whole : IsWholeRun setup entries last
   pub answer : reply ≡ replayed_reply entries last
+
+-- ---- rewrite
+
+-- the rewritten image is saved, and at how many sites it was rewritten is told
+abbrev pub rewritten_reply : Name → Rewritten → Reply
+rewritten_reply out r = record {
+  status = Done;
+  text = rewrote_line (length r.runs);
+  save = Some (record { name = out; bytes = r.bytes });
+}
 
 -- ---- gen
 

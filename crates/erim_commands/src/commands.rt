@@ -9,6 +9,7 @@ mod disasm;
 mod inspect;
 mod made;
 mod replay;
+mod rewrite;
 mod run;
 
 use command_words::Command;
@@ -38,6 +39,7 @@ pub fn carry_out<S: Store, K: Sink>(
             frames,
         } => run::run(alloc, image, journal, workers, steps, frames, store, out),
         Command::Replay { image, journal } => replay::replay(alloc, image, journal, store, out),
+        Command::Rewrite { image, out: name } => rewrite::rewrite(alloc, image, name, store, out),
         Command::Gen { seed, out: name } => made::generate(alloc, seed, name, store, out),
         Command::Soak { seed, journal } => made::soak(alloc, seed, journal, store, out),
     }

@@ -5,6 +5,13 @@
 //! it loads and what it answers (`specs/Commands.antt`), and `erim_plain` ensures that the plan of
 //! the words' command was carried out, and what each status tells of files and output
 //! (`specs/Promises.antt`). A reply's file is saved before its text is put (`specs/Delivery.antt`).
+//! What `rewrite` saves is accepted and has nothing unsafe, which `rewriting_laws` says of every
+//! answer of the definition.
+//!
+//! `commands.rt` chooses the command, and each file of `commands/` has one, or two on made images;
+//! `runs.rt` is what those that run processes share. `loads.rt` loads what they read, `text.rt` has
+//! the lines where they do nothing, and `reply.rt` with `delivery.rt` what they answer and how it
+//! is delivered.
 #![tactic(auto)]
 
 mod commands;

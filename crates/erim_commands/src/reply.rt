@@ -19,6 +19,8 @@ pub enum Status {
     JournalRefused = 6,
     /// The process hasn't ended, and its budget is spent.
     Spent = 7,
+    /// The image can't be rewritten.
+    RewriteRefused = 8,
 }
 
 /// The program's answer where the words mean no command.

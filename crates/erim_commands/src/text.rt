@@ -3,11 +3,14 @@
 ghost use Rattle.std.specs.Prelude.{◌≡◌, ◌++◌, IfOk, codes};
 ghost use Rattle.std.specs.Fmt.{decimal};
 ghost use Rattle.std.specs.String.{string_bytes};
+ghost use Rattle.erim_defs.specs.Output.RewriteTexts.{rewrite_text, why_text};
 ghost use Rattle.erim_defs.specs.Output.Texts.{error_line, fault_text, journal_fault_text};
+ghost use Rattle.erim_commands.specs.CallParts.{fault_of};
 ghost use Rattle.erim_commands.specs.Replies.{break_text, start_text};
 
-use erim_defs::{ImageFault, JournalFault, NoMemory};
+use erim_defs::{ImageFault, JournalFault, NoMemory, Why};
 use erim_process::StartFault;
+use overlap_rewrite::RewriteFault;
 use report_text::{address_text, kind_text};
 use std::alloc::{AllocError, Global};
 use thread_runner::ReplayFault;
@@ -143,4 +146,60 @@ pub fn break_line(alloc: Global, fault: &ReplayFault) -> Result<String, NoMemory
     ensures { IfOk result (λ text. string_bytes text ≡ error_line (break_text fault.now)) }
 {
     Ok(named_break(alloc, fault)?)
+}
+
+/// The name of a cause for which a sequence can't be rewritten.
+fn why_text(why: Why) -> &'static str
+    ensures { result.now ≡ why_text why }
+{
+    match why {
+        Why::Trusted => "trusted",
+        Why::Outside => "outside",
+        Why::Undecoded => "undecoded",
+        Why::Intended => "intended",
+        Why::Call => "call",
+        Why::Room => "room",
+        Why::Target => "target",
+        Why::Displacement => "displacement",
+        Why::Immediate => "immediate",
+        Why::Opcode => "opcode",
+    }
+}
+
+/// The line that names a sequence that can't be rewritten.
+#[tactic(auto, unfolding(erim_defs::specs::Output::Texts::error_line))]
+fn cannot_line(alloc: Global, at: &str, why: &str) -> Result<String, AllocError>
+    ensures { IfOk result (λ text. string_bytes text
+        ≡ error_line (codes "cannot rewrite " ++ at.now ++ codes " " ++ why.now)) }
+{
+    format!(in alloc; "erim: cannot rewrite {at} {why}\n")
+}
+
+/// The line that names the cause for which an image isn't rewritten, unless memory runs out.
+#[tactic(auto, unfolding(erim_defs::specs::Output::Texts::error_line))]
+fn named_rewrite_fault(alloc: Global, fault: &RewriteFault) -> Result<String, AllocError>
+    ensures { IfOk result (λ text. string_bytes text
+        ≡ error_line (rewrite_text (fault_of fault.now))) }
+{
+    match fault {
+        RewriteFault::Image(fault) => named_fault(alloc, fault),
+        RewriteFault::Cannot { at, why } => {
+            let at = address_text(alloc, *at)?;
+            cannot_line(alloc, at.as_str(), why_text(*why))
+        }
+        RewriteFault::NoRoom { at } => {
+            let at = address_text(alloc, *at)?;
+            format!(in alloc; "erim: no room {at}\n")
+        }
+        // As above.
+        RewriteFault::Memory => format!(in alloc; "erim: out of memory\n"),
+    }
+}
+
+/// The line that names the cause for which an image isn't rewritten.
+pub fn rewrite_line(alloc: Global, fault: &RewriteFault) -> Result<String, NoMemory>
+    ensures { IfOk result (λ text. string_bytes text
+        ≡ error_line (rewrite_text (fault_of fault.now))) }
+{
+    Ok(named_rewrite_fault(alloc, fault)?)
 }

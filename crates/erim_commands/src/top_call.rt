@@ -5,6 +5,7 @@ ghost use Rattle.std.specs.String.{string_bytes};
 ghost use Rattle.erim_defs.specs.Output.Words.{command_of};
 ghost use Rattle.erim_commands.specs.declared.reply.Status.TheVariants.{ImageRefused};
 ghost use Rattle.erim_commands.specs.declared.reply.Status.TheVariants.{JournalRefused};
+ghost use Rattle.erim_commands.specs.declared.reply.Status.TheVariants.{RewriteRefused};
 ghost use Rattle.erim_commands.specs.Commands.{plan_for};
 ghost use Rattle.erim_commands.specs.Delivery.{Carries, world};
 ghost use Rattle.erim_commands.specs.Promises.{IsComplete, TellsEnd, TellsFault, TellsFaultless};
@@ -16,6 +17,7 @@ use crate::delivery::put;
 use crate::reply::{OUT_OF_MEMORY, Status, code_of};
 use command_words::command_of;
 use erim_io::{Sink, Store};
+use rewriting_laws::answered;
 use std::alloc::Global;
 
 /// Does the command that the words mean.
@@ -40,7 +42,8 @@ fn obey<S: Store, K: Sink>(alloc: Global, words: &[String], store: &mut S, out: 
 /// The first word is the program's name. `inspect IMAGE` prints the unsafe list of the image code;
 /// `disasm IMAGE` prints the instructions of the executable segments' file parts;
 /// `run IMAGE JOURNAL` runs the image, saves the journal of the run and prints its report;
-/// `replay IMAGE JOURNAL` runs it by a journal and prints the report; `gen SEED OUT` saves the image
+/// `replay IMAGE JOURNAL` runs it by a journal and prints the report; `rewrite IMAGE OUT` saves an
+/// image in which no sequence is unsafe, rewritten from the image; `gen SEED OUT` saves the image
 /// that is made from a seed; `soak SEED JOURNAL` runs that image, saves the journal of the run and
 /// prints its line.
 pub fn erim_plain<S: Store, K: Sink>(
@@ -73,10 +76,15 @@ pub fn erim_plain<S: Store, K: Sink>(
     ensures journal { let old = world S.Store K.Sink store.old out.old in
         TellsRefusal JournalRefused (command_of (map string_bytes words.now)) old result }
 
+    // 8 exactly where a sequence of the image can't be rewritten, or there is no room for it.
+    ensures rewriting { let old = world S.Store K.Sink store.old out.old in
+        TellsRefusal RewriteRefused (command_of (map string_bytes words.now)) old result }
+
     // Else: `inspect` told the unsafe list of the image code; `disasm` told its instructions; `run`
     // saved the journal of a whole run of the machine and told the report of its replay, which is
-    // what `replay` tells of that journal; `gen` saved the made image; `soak` did as `run` and told
-    // its line.
+    // what `replay` tells of that journal; `rewrite` saved the rewritten image, which is accepted,
+    // and of which nothing is unsafe; `gen` saved the made image; `soak` did as `run` and told its
+    // line.
     ensures work { let command = command_of (map string_bytes words.now) in
         let old = world S.Store K.Sink store.old out.old in
         TellsWork command old (world S.Store K.Sink store.new out.new) result }
@@ -100,5 +108,6 @@ pub fn erim_plain<S: Store, K: Sink>(
         let old = world S.Store K.Sink store.old out.old in
         IsComplete command old (world S.Store K.Sink store.new out.new) result }
 {
+    answered();
     obey(alloc, words, store, out)
 }

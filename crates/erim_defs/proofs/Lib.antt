@@ -9,6 +9,7 @@ mod ConditionRows
 pub mod CountLemmas
 mod DisasmRows
 pub mod FaultLemmas
+pub mod FilePartLemmas
 pub mod FirstUnsafeLemmas
 mod FlagRows
 mod GateRows
@@ -32,6 +33,7 @@ pub mod PlanLemmas
 pub mod WriteLemmas
 pub mod RecordLemmas
 mod ReplayRows
+mod RewritingRows
 mod ReportRows
 pub mod SafeLemmas
 pub mod SegmentLemmas

@@ -182,6 +182,23 @@ occurrence_few c a o h = by (occurrence_view c a o h).rest
         few_along o.len (xrstor_len m (byte_or_zero (c (a + 3)))) (ap (λ (f : Found). f.len) is)
         (xrstor_many m _) (xrstor_few m _)
 
+-- where it stands, how it begins, and how long it is
+pub record Facts (c : Code) (a : ℕ) (o : Found) : Type 0 where
+  pub place : o.at ≡ a
+  pub first : c a ≡ Some 0x0F
+  pub many : 3 ≤ o.len
+  pub few : o.len ≤ 8
+
+pub occurrence_facts : (c : Code) (a : ℕ) (o : Found) → occurrence_at c a ≡ Some o → Facts c a o
+occurrence_facts c a o h =
+    let long = occurrence_few c a o h in
+    record {
+      place = occurrence_place c a o h;
+      first = (occurrence_view c a o h).first;
+      many = long.many;
+      few = long.few;
+    }
+
 three_there : (c : Code) (a : ℕ) (x y z : ℕ) → c a ≡ Some x → c (a + 1) ≡ Some y
     → c (a + 2) ≡ Some z → (b : ℕ) → a ≤ b → b < a + 3 → is_some (c b) ≡ true
 three_there c a x y z first second third b low high = by (b - a) (omega (arith, low)) (omega arith)

@@ -13,7 +13,10 @@ use Rattle.erim_defs.specs.declared.fault.ImageFault.TheVariants.{BadFunction}
 use Rattle.erim_defs.specs.declared.fault.ImageFault.{ImageFault}
 use Rattle.erim_defs.specs.declared.found.Found.{Found}
 use Rattle.erim_defs.specs.declared.found.SeqKind.TheVariants.{Wrpkru}
+use Rattle.erim_defs.specs.declared.rewriting.Why.TheVariants as reasons
+use Rattle.erim_defs.specs.Output.RewriteTexts.{rewrite_text, rewrote_line}
 use Rattle.erim_defs.specs.Output.Texts.{unsafe_line, inspect_text, fault_text, error_line}
+use Rattle.erim_defs.specs.Rewriting.Rewriting.{Fault, NotImage, Cannot, NoRoom}
 
 wrpkru : ℕ → Found
 wrpkru a = record { at = a; len = 3; kind = Wrpkru }
@@ -64,3 +67,36 @@ faults =
 fault_texts : map (λ (r : Row). fault_text r.fault) faults ≡ map (λ (r : Row). r.text) faults
 unfolding digits faults
 fault_texts = refl
+
+-- why an image isn't rewritten, and the text
+record Refusal : Type 0 where
+  cause : Fault
+  text : List ℕ
+
+abbrev refusal : Fault → List ℕ → Refusal
+refusal cause text = record { cause = cause; text = text }
+
+refusals : List Refusal
+refusals =
+    refusal (NotImage Magic) (codes "image magic") ∷
+    refusal (NoRoom 0x401001) (codes "no room 0x000000401001") ∷
+    refusal (Cannot 1 reasons.Trusted) (codes "cannot rewrite 0x000000000001 trusted") ∷
+    refusal (Cannot 1 reasons.Outside) (codes "cannot rewrite 0x000000000001 outside") ∷
+    refusal (Cannot 1 reasons.Undecoded) (codes "cannot rewrite 0x000000000001 undecoded") ∷
+    refusal (Cannot 1 reasons.Intended) (codes "cannot rewrite 0x000000000001 intended") ∷
+    refusal (Cannot 1 reasons.Call) (codes "cannot rewrite 0x000000000001 call") ∷
+    refusal (Cannot 1 reasons.Room) (codes "cannot rewrite 0x000000000001 room") ∷
+    refusal (Cannot 1 reasons.Target) (codes "cannot rewrite 0x000000000001 target") ∷
+    refusal (Cannot 1 reasons.Displacement) (codes "cannot rewrite 0x000000000001 displacement") ∷
+    refusal (Cannot 0x401001 reasons.Immediate)
+    (codes "cannot rewrite 0x000000401001 immediate") ∷
+    refusal (Cannot 1 reasons.Opcode) (codes "cannot rewrite 0x000000000001 opcode") ∷ []
+
+refusal_texts : map (λ (r : Refusal). rewrite_text r.cause) refusals
+    ≡ map (λ (r : Refusal). r.text) refusals
+unfolding digits refusals
+refusal_texts = refl
+
+rewritten_sites : rewrote_line 10 ≡ codes "rewrote 10 sites\n"
+unfolding rewrote_line digits
+rewritten_sites = refl

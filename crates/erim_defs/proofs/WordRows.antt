@@ -2,7 +2,7 @@
 use Rattle.std.proofs.Common.{◌≡◌, ◌==◌, ℕ, List, [], ◌∷◌, Option, Some, None, map, refl}
 use Rattle.std.specs.Prelude.{codes, if◌then◌else◌}
 use Rattle.erim_defs.specs.Output.WordForms.{Text, reads}
-use Rattle.erim_defs.specs.Output.Words.{Command, Inspect, Disasm, Run, Replay, Gen, Soak}
+use Rattle.erim_defs.specs.Output.Words.{Command, Inspect, Disasm, Run, Replay, Rewrite, Gen, Soak}
 use Rattle.erim_defs.specs.Output.Words.{command_of}
 use Prim.Native.String.{String}
 
@@ -44,6 +44,7 @@ commands =
     means "x disasm b" (Disasm (codes "b")) ∷
     means " run c d" (Run (codes "c") (codes "d") 4 1000000 1024) ∷
     means "--help replay a j" (Replay (codes "a") (codes "j")) ∷
+    means "erim rewrite a o" (Rewrite (codes "a") (codes "o")) ∷
     means "erim gen 7 o" (Gen 7 (codes "o")) ∷
     means "erim soak 8 j" (Soak 8 (codes "j")) ∷
     -- `-` alone and the empty word are names, and so are words with `-` or `=` behind their first
@@ -83,12 +84,14 @@ commands =
     none "erim disasm" ∷
     none "erim run a" ∷
     none "erim replay a" ∷
+    none "erim rewrite a" ∷
     none "erim gen 7" ∷
     none "erim soak 7" ∷
     none "erim inspect a b" ∷
     none "erim disasm a b" ∷
     none "erim run a b c" ∷
     none "erim replay a b c" ∷
+    none "erim rewrite a b c" ∷
     none "erim gen 7 o p" ∷
     none "erim soak 7 j k" ∷ []
 

@@ -3,3 +3,4 @@ pub mod Inspection
 pub mod Encoding
 pub mod Machine
 pub mod Output
+pub mod Rewriting

@@ -7,3 +7,4 @@ pub mod Report
 pub mod LayImage
 pub mod MadeImage
 pub mod MadeTexts
+pub mod RewriteTexts

@@ -2,10 +2,11 @@
 //!
 //! The definitions stand in folders by what rests on them: `Inspection` (codes, the trusted part,
 //! safe and unsafe sequences, images), `Encoding` (the grammar of instructions and their notation),
-//! `Machine` (pages, steps, the start, replays, isolation) and `Output` (reports, journals, made
-//! images). `proofs/` computes them on rows with values from outside, and holds the lemmas that
-//! two crates or more need. Every other crate uses this one; of its functions `one_journal` is a
-//! law (the bytes of a journal determine it), the others are methods of the shared types.
+//! `Machine` (pages, steps, the start, replays, isolation), `Output` (reports, journals, made
+//! images) and `Rewriting` (runs, their copies, the new file). `proofs/` computes them on rows with
+//! values from outside, and holds the lemmas that two crates or more need. Every other crate uses
+//! this one; of its functions `one_journal` is a law (the bytes of a journal determine it), those of
+//! `field` read numbers at a place, and the others are methods of the shared types.
 #![tactic(auto)]
 
 pub mod elf;
@@ -22,6 +23,7 @@ mod memory;
 pub mod note;
 pub mod page;
 pub mod register;
+mod rewriting;
 mod segment;
 mod trust;
 
@@ -33,5 +35,6 @@ pub use insn::{
 pub use journal::{JournalFault, one_journal};
 pub use machine::{Access, Cause, End, Entry, Escape, Flags, Keys, Outcome, Rights, Thread};
 pub use memory::NoMemory;
+pub use rewriting::Why;
 pub use segment::Segment;
 pub use trust::{Span, Trust};

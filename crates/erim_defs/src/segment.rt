@@ -1,13 +1,15 @@
 //! A loadable segment of an image: what it is for, which pages it touches, and whether it lies
 //! where it may.
 
-ghost use Rattle.std.specs.Prelude.{◌≡◌, ◌+◌, ◌^◌, nat_le};
-ghost use Rattle.erim_defs.specs.Inspection.Image.{end_page, first_page, is_executable, is_in_file};
+ghost use Rattle.std.specs.Prelude.{◌≡◌, ◌+◌, ◌^◌, ◌&&◌, nat_le};
+ghost use Rattle.erim_defs.specs.Inspection.Image.{end_page, first_page, holds_function};
+ghost use Rattle.erim_defs.specs.Inspection.Image.{is_executable, is_in_file};
 ghost use Rattle.erim_defs.specs.Inspection.Image.{is_in_user, is_off_stack, is_writable};
 ghost use Rattle.erim_defs.specs.Inspection.Image.{page_count, shares_page, touches};
 
 use crate::elf::{PF_W, PF_X};
 use crate::page::{LOWEST_ADDRESS, PAGE_SIZE, STACK_END_PAGE, STACK_PAGE, USER_END};
+use crate::trust::Span;
 
 /// A loadable segment, as its program header tells it (ELF-64, "Program header").
 #[derive(Clone, Copy, PartialEq, Eq)]
@@ -74,6 +76,26 @@ impl Segment {
         ensures { result ≡ shares_page self.now other.now }
     {
         self.first_page() < other.end_page() && other.first_page() < self.end_page()
+    }
+
+    /// Does the file part have a function? Neither end is made: both may pass 2^64.
+    fn has_in_file(&self, function: &Span) -> bool
+        ensures { result ≡ (nat_le self.now.vaddr function.now.start
+            && nat_le (function.now.start + function.now.length)
+            (self.now.vaddr + self.now.filesz)) }
+    {
+        if function.start < self.vaddr {
+            return false;
+        }
+        let place = function.start - self.vaddr;
+        place <= self.filesz && function.length <= self.filesz - place
+    }
+
+    /// May it be executed, and does its file part have a function?
+    pub fn holds_function(&self, function: &Span) -> bool
+        ensures { result ≡ holds_function function.now self.now }
+    {
+        self.is_executable() && self.has_in_file(function)
     }
 
     /// Does the file part lie in a file of so many bytes? The sum of offset and size may pass

@@ -45,6 +45,13 @@ impl Trust {
         self.texts.as_slice()
     }
 
+    /// The addresses at which trusted text may be entered.
+    pub fn entries(&self) -> &[u64]
+        ensures { result.now ≡ self.now.entries }
+    {
+        self.entries.as_slice()
+    }
+
     /// The PKRU of a closed thread.
     pub fn closed_value(&self) -> u32
         ensures { result ≡ closed_value self.now }

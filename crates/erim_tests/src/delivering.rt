@@ -13,6 +13,8 @@ const RUN: &str = "erim run image journal";
 
 const REPLAY: &str = "erim replay image journal";
 
+const REWRITE: &str = "erim rewrite image out";
+
 const GEN: &str = "erim gen 0 image";
 
 const SOAK: &str = "erim soak 0 journal";
@@ -28,6 +30,7 @@ erim run image
 erim run image journal --workers 9
 erim run image journal --steps 1 --steps 2
 erim replay image journal --steps 1
+erim rewrite image
 erim soak 18446744073709551616 journal";
 
 #[test]
@@ -56,6 +59,8 @@ fn loads_and_saves_that_fail(rt: HostRuntime) {
     check_failing(&rt, rt.alloc(), RUN, 1, "erim: save failed\n");
     check_failing(&rt, rt.alloc(), REPLAY, 0, "erim: load failed\n");
     check_failing(&rt, rt.alloc(), REPLAY, 1, "erim: load failed\n");
+    check_failing(&rt, rt.alloc(), REWRITE, 0, "erim: load failed\n");
+    check_failing(&rt, rt.alloc(), REWRITE, 1, "erim: save failed\n");
     check_failing(&rt, rt.alloc(), GEN, 0, "erim: save failed\n");
     check_failing(&rt, rt.alloc(), SOAK, 0, "erim: save failed\n");
 }
@@ -88,6 +93,8 @@ fn puts_that_fail(rt: HostRuntime) {
     check_put(&rt, rt.alloc(), INSPECT, &[], 6, "unsafe", 0);
     check_put(&rt, rt.alloc(), RUN, &[0], 4096, "", 52);
     check_put(&rt, rt.alloc(), RUN, &[], 9, "output 0\n", 52);
+    check_put(&rt, rt.alloc(), REWRITE, &[0], 4096, "", 0);
+    check_put(&rt, rt.alloc(), REWRITE, &[], 7, "rewrote", 0);
     check_put(&rt, rt.alloc(), GEN, &[], 5, "gen 0", 0);
     check_put(&rt, rt.alloc(), SOAK, &[0], 4096, "", 324);
     check_put(&rt, rt.alloc(), SOAK, &[], 6, "soak 0", 324);

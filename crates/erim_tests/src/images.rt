@@ -256,7 +256,7 @@ fn put(rt: &impl Abort, bytes: &mut [u8], field: &str) {
 }
 
 /// Puts each value into its field.
-fn put_all(rt: &impl Abort, bytes: &mut [u8], fields: &str) {
+pub fn put_all(rt: &impl Abort, bytes: &mut [u8], fields: &str) {
     for field in fields.split_whitespace() {
         put(rt, bytes, field);
     }

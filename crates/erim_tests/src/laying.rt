@@ -4,14 +4,15 @@ ghost use Rattle.std.specs.Prelude.{◌≤◌, ◌*◌, length};
 ghost use Rattle.image_gen.specs.Parts.{total_bytes};
 
 use crate::rows::{bytes_of, number, word};
+use elf_image::Span;
 use image_gen::{Mark, Part, lay_image};
 use std::alloc::Global;
 use std::process::Abort;
 
-/// What a page begins with: `PLACE BYTES`, for one place after the other, with `+` between them.
+/// What a page or two begin with: `PLACE BYTES`, for one place after the other, with `+` between them.
 /// Zeros stand up to each place.
 fn page_bytes(rt: &impl Abort, alloc: Global, stretches: &str) -> Vec<u8>
-    ensures { length result.items ≤ 4096 }
+    ensures { length result.items ≤ 8192 }
 {
     let mut bytes = Vec::new(alloc);
     for stretch in stretches.split('+') {
@@ -22,14 +23,14 @@ fn page_bytes(rt: &impl Abort, alloc: Global, stretches: &str) -> Vec<u8>
         let tail = bytes_of(rt, alloc, digits);
         bytes.extend_from_slice(&tail).expect(rt, stretch);
     }
-    bytes.truncate(4096);
+    bytes.truncate(8192);
     bytes
 }
 
 /// A segment: `ADDRESS FLAGS PAGES STRETCHES`. The flags are readable 4, writable 2 and executable
 /// 1. In memory it has so many pages, in the file the stretches.
 fn part(rt: &impl Abort, alloc: Global, segment: &str) -> Part
-    ensures { length result.bytes.items ≤ 4096 }
+    ensures { length result.bytes.items ≤ 8192 }
 {
     let (address, rest) = word(rt, segment);
     let (flags, rest) = word(rt, rest);
@@ -56,7 +57,7 @@ fn mark(rt: &impl Abort, record: &str) -> Mark {
 /// The segments, with commas between them.
 fn parts(rt: &impl Abort, alloc: Global, segments: &str) -> Vec<Part>
     ensures few { length result.items ≤ 63 }
-    ensures bytes { total_bytes result.items ≤ 4096 * 63 }
+    ensures bytes { total_bytes result.items ≤ 8192 * 63 }
 {
     let mut parts = Vec::new(alloc);
     for segment in segments.split(',') {
@@ -82,12 +83,43 @@ fn marks(rt: &impl Abort, alloc: Global, records: &str) -> Vec<Mark>
     marks
 }
 
+/// The functions, `START LENGTH`, with commas between them; none for `-`.
+fn functions(rt: &impl Abort, alloc: Global, text: &str) -> Vec<Span>
+    ensures { length result.items ≤ 4096 }
+{
+    let mut functions = Vec::new(alloc);
+    for function in text.split(',') {
+        assert!(rt; functions.len() < 4096);
+        if function != "-" {
+            let (start, length) = word(rt, function.trim());
+            let start = number(rt, start);
+            let length = number(rt, length);
+            functions.push(Span { start, length }).expect(rt, text);
+        }
+    }
+    functions
+}
+
+/// The image of some segments with a trust note of some records and a functions note, where there
+/// are any, and its entry point.
+pub fn laid_with(
+    rt: &impl Abort,
+    alloc: Global,
+    segments: &str,
+    records: &str,
+    listed: &str,
+    entry: u64,
+) -> Vec<u8> {
+    let parts = parts(rt, alloc, segments);
+    let marks = marks(rt, alloc, records);
+    let functions = functions(rt, alloc, listed);
+    lay_image(alloc, &parts, &marks, &functions, entry).expect(rt, segments)
+}
+
 /// The image of some segments with a trust note of some records, where there are any, and its entry
 /// point.
 pub fn laid(rt: &impl Abort, alloc: Global, segments: &str, records: &str, entry: u64) -> Vec<u8> {
-    let parts = parts(rt, alloc, segments);
-    let marks = marks(rt, alloc, records);
-    lay_image(alloc, &parts, &marks, &[], entry).expect(rt, segments)
+    laid_with(rt, alloc, segments, records, "-", entry)
 }
 
 /// The image of a page that leaves with status 0: mov edi, 0; mov eax, 231; syscall.

@@ -45,6 +45,8 @@ mod printing;
 #[cfg(test)]
 mod replaying;
 #[cfg(test)]
+mod rewriting;
+#[cfg(test)]
 mod rows;
 #[cfg(test)]
 mod run_rows;

@@ -11,6 +11,7 @@ erim inspect a.img | inspect a.img
 erim disasm a.img | disasm a.img
 erim run a j | run a j 4 1000000 1024
 erim replay a j | replay a j
+erim rewrite a o | rewrite a o
 erim gen 7 o | gen 7 o
 erim soak 7 j | soak 7 j
 | none
@@ -55,6 +56,11 @@ erim run a | none
 erim run a j k | none
 erim replay a | none
 erim replay a j k | none
+erim rewrite | none
+erim rewrite a | none
+erim rewrite a o p | none
+erim rewrite --frames=64 a o | none
+erim rewrite -- -a - | rewrite -a -
 erim gen 7 | none
 erim gen 7 o p | none
 erim soak 7 | none
@@ -226,6 +232,9 @@ fn shown(rt: &impl Abort, alloc: Global, command: &Command) -> String {
         }
         Command::Replay { image, journal } => {
             format!(in alloc; "replay {} {}", name(image), name(journal))
+        }
+        Command::Rewrite { image, out } => {
+            format!(in alloc; "rewrite {} {}", name(image), name(out))
         }
         Command::Gen { seed, out } => format!(in alloc; "gen {seed} {}", name(out)),
         Command::Soak { seed, journal } => format!(in alloc; "soak {seed} {}", name(journal)),

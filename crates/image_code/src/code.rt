@@ -61,6 +61,18 @@ impl ImageCode {
         Ok(ImageCode { stretches })
     }
 
+    /// The byte at an address, or none where the code has none.
+    pub fn byte_at(&self, address: u64) -> Option<u8>
+        ensures { result ≡ code_in self.now address }
+    {
+        for stretch in &self.stretches {
+            if let Some(byte) = stretch.byte_at(address) {
+                return Some(byte);
+            }
+        }
+        None
+    }
+
     /// The first unsafe sequence of the code from an address on.
     pub fn next_unsafe(&self, trust: &Trust, from: u64) -> Option<Found>
         ensures { IsFirstUnsafe trust.now (code_in self.now) from (2 ^ 47) result }

@@ -46,6 +46,14 @@ impl Stretch {
         Ok(Vec::from_slice(alloc, &self.bytes[start..end])?)
     }
 
+    /// The byte at an address, where it has one.
+    pub fn byte_at(&self, address: u64) -> Option<u8>
+        ensures { result ≡ stretch_code self.now address }
+    {
+        let place = address.checked_sub(self.base)?;
+        self.bytes.get(place as usize).copied()
+    }
+
     /// The first sequence from an address on that is unsafe by the bytes of the stretch alone.
     pub fn next_unsafe(&self, trust: &Trust, from: u64) -> Option<Found>
         ensures { IsFirstUnsafe trust.now (stretch_code self.now) from (stretch_end self.now)

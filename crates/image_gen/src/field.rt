@@ -1,6 +1,6 @@
 //! Appends fields, low byte first, and zeros.
 
-ghost use Rattle.std.specs.Prelude.{◌≡◌, ◌^◌, ◌<◌, ◌++◌, OnOk};
+ghost use Rattle.std.specs.Prelude.{◌≡◌, ◌+◌, ◌^◌, ◌<◌, ◌≤◌, ◌++◌, OnOk};
 ghost use Rattle.erim_defs.specs.Output.LayImage.{halves, words, xwords, multiple_from};
 ghost use Rattle.erim_defs.specs.Output.LayImage.{with_padding};
 
@@ -39,8 +39,7 @@ pub fn push_xwords(bytes: &mut Vec<u8>, numbers: &[u64]) -> Result<(), AllocErro
 /// The least multiple of `size` that isn't below `n`.
 pub fn multiple_from(size: u64, n: u64) -> u64
     requires some { 0 < size }
-    requires small { size < 65536 }
-    requires room { n < 2 ^ 63 }
+    requires room { n + size ≤ 2 ^ 64 }
     ensures { result ≡ multiple_from size n }
 {
     (n + (size - 1)) / size * size

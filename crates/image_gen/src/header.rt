@@ -17,14 +17,15 @@ use std::alloc::AllocError;
 
 /// What a program header tells. Its p_paddr is its p_vaddr.
 #[derive(Clone, Copy)]
-struct Header {
-    kind: u32,
-    flags: u32,
-    place: u64,
-    vaddr: u64,
-    filesz: u64,
-    memsz: u64,
-    align: u64,
+pub struct Header {
+    pub kind: u32,
+    pub flags: u32,
+    /// The place of its bytes in the file.
+    pub place: u64,
+    pub vaddr: u64,
+    pub filesz: u64,
+    pub memsz: u64,
+    pub align: u64,
 }
 
 /// Appends the file header, of 64 bytes, of an image with `count` program headers.
@@ -58,7 +59,7 @@ pub fn push_file_header(bytes: &mut Vec<u8>, count: u16, entry: u64) -> Result<(
 }
 
 /// Appends a program header, of 56 bytes.
-fn push_header(bytes: &mut Vec<u8>, header: &Header) -> Result<(), AllocError>
+pub fn push_program_header(bytes: &mut Vec<u8>, header: &Header) -> Result<(), AllocError>
     ensures { OnOk result (bytes.new.items ≡ bytes.old.items ++ header_bytes header.now) }
 {
     push_words(bytes, &[header.kind, header.flags])?;
@@ -115,7 +116,7 @@ pub fn push_headers(
             memsz: part.memsz,
             align: PAGE_SIZE,
         };
-        push_header(bytes, &header)?;
+        push_program_header(bytes, &header)?;
         end = end.max(place + filesz);
     }
     if notes.is_empty() {
@@ -131,5 +132,5 @@ pub fn push_headers(
         memsz: filesz,
         align: NOTE_ALIGNMENT,
     };
-    push_header(bytes, &header)
+    push_program_header(bytes, &header)
 }

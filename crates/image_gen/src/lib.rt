@@ -6,7 +6,8 @@
 //! can be started. It lays its parts by `lay_image`, as do tests that need an image, whose result is
 //! `laid_image` of `LayImage`, byte for byte. The file header, the program headers (`header`), the
 //! notes (`note`) and the whole file (`image`) are appended one after another, through fields of 2,
-//! 4 and 8 bytes (`field`).
+//! 4 and 8 bytes (`field`). `push_program_header`, `push_at` and `multiple_from` are also for who
+//! adds a segment to a file.
 #![tactic(auto)]
 
 mod field;
@@ -17,6 +18,8 @@ mod note;
 mod part;
 mod seed;
 
+pub use field::{multiple_from, push_at};
+pub use header::{Header, push_program_header};
 pub use image::lay_image;
 pub use made::{made_startable, make_image};
 pub use part::{Mark, Part};

@@ -1,8 +1,8 @@
 //! Finds the sequences of bytes that write PKRU in a code, at any byte offset.
 //!
-//! `next_sequence` gives the first one from a place on, WRPKRU or XRSTOR; `safe_occurrence` says
-//! which are safe. It meets `occurrence_at` of `erim_defs`; bytes behind the end of the code are
-//! absent.
+//! `sequence_at` gives the one at a place, WRPKRU or XRSTOR, and `next_sequence` the first one from
+//! a place on; `safe_occurrence` says which are safe. They meet `occurrence_at` of `erim_defs`;
+//! bytes behind the end of the code are absent.
 #![tactic(auto)]
 
 mod bytes;
@@ -10,4 +10,4 @@ mod scan;
 mod wrpkru;
 mod xrstor;
 
-pub use scan::next_sequence;
+pub use scan::{next_sequence, sequence_at};

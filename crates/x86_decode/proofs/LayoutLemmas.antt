@@ -116,7 +116,7 @@ body_roomy lead t a h = (escaped h.0.escape h.0).is t a h.2
         (λ b. when_roomy 1 (b == 0x0F) (Opcode line lead) (opcode_roomy line lead)))
     escaped false line = opcode_roomy line lead
 
-format_roomy : (t : List ℕ) (a : InsnAndSizes) → HasFormat t a → a.2 + a.3 ≤ length t
+format_roomy : (t : List ℕ) (a : InsnAndSizes) → HasFormat t a → 1 + (a.2 + a.3) ≤ length t
 format_roomy t a w =
     let lead = lead_of w.prefixes w.f3 w.rex in
     let body = body_roomy lead w.body a w.line in
@@ -134,7 +134,7 @@ pub record ReadSo (bytes : List ℕ) (len : ℕ) (a : InsnAndSizes) : Type 0 whe
   pub long : length encoding ≤ 15
   pub parts : bytes ≡ encoding ++ rest
   pub size : length encoding ≡ len
-  pub room : a.2 + a.3 ≤ len
+  pub room : 1 + (a.2 + a.3) ≤ len
 
 pub read_so : (bytes window rest : List ℕ) (a : InsnAndSizes) → IsWindow bytes window
     → AreBytes window → front_at 0 false false window ≡ Ok (a, rest)

@@ -4,11 +4,12 @@
 //! begin no instruction, or that they are the beginning of one. It is `decode` of
 //! `erim_defs/specs/Decoding`, and what `Decodes` says: which bytes encode which instruction is
 //! `Encodes` of `Grammar`. `locate` tells where displacement, immediate and relative offset stand,
-//! by `Locates` of `specs/Layout`. The two laws, `prefix_free` and `decode_is_exact`, have nothing
-//! to run: who needs them in a proof calls them. The machine's steps (`erim_process`) and `erim
-//! disasm` call `decode`. In the files: `front` reads prefixes, F3 and REX, `body` what follows,
-//! `opcode_map` finds the row of an opcode, `operand` reads ModRM, SIB and displacement, `forms`
-//! makes the instruction, and `cursor` takes bytes from the front.
+//! by `Locates` of `specs/Layout`, and `measure` the instruction with the sizes of its parts,
+//! exactly as `standing` of `erim_defs`. The two laws, `prefix_free` and `decode_is_exact`, have
+//! nothing to run: who needs them in a proof calls them. The machine's steps (`erim_process`) and
+//! `erim disasm` call `decode`. In the files: `front` reads prefixes, F3 and REX, `body` what
+//! follows, `opcode_map` finds the row of an opcode, `operand` reads ModRM, SIB and displacement,
+//! `forms` makes the instruction, and `cursor` takes bytes from the front.
 #![tactic(auto)]
 
 mod body;
@@ -21,4 +22,4 @@ mod operand;
 mod positions;
 
 pub use decoding::{decode, decode_is_exact, prefix_free};
-pub use positions::{Layout, Part, locate};
+pub use positions::{Layout, Measured, Part, locate, measure};

@@ -1,7 +1,8 @@
 //! Where an instruction's displacement, immediate and relative offset stand in its bytes.
 
-ghost use Rattle.std.specs.Prelude.{◌≡◌, ◌+◌, ◌≤◌};
+ghost use Rattle.std.specs.Prelude.{◌≡◌, ◌+◌, ◌<◌, ◌≤◌, IfSome, length};
 ghost use Rattle.x86_decode.specs.Layout.{part_at, ends_in_relative_offset, layout_of, Locates};
+ghost use Rattle.x86_decode.specs.Stands.{Stands};
 
 use crate::body::Sizes;
 use crate::decoding::window_of;
@@ -78,6 +79,39 @@ pub fn locate(bytes: &[u8]) -> Option<Layout>
         Ok((insn, sizes, rest)) => {
             let len = (window.len() - rest.len()) as u8;
             Some(layout_of(&insn, sizes, len))
+        }
+        Err(_) => None,
+    }
+}
+
+/// An instruction, how many bytes it has, and how many of them stand before its opcode, are its
+/// displacement, and are the immediate or relative offset that ends it.
+#[derive(Clone, Copy)]
+pub struct Measured {
+    pub insn: Insn,
+    pub len: u8,
+    pub skip: u8,
+    pub disp: u8,
+    pub imm: u8,
+}
+
+/// The instruction that the bytes begin with, with the sizes of its parts; nothing where they begin
+/// with none. Takes no memory.
+pub fn measure(bytes: &[u8]) -> Option<Measured>
+    ensures standing { Stands bytes.now result }
+    ensures sizes { IfSome result (λ m. (0 < m.len) × (m.len ≤ length bytes.now)
+        × (m.len ≤ 15) × (m.disp + m.imm ≤ m.len)) }
+{
+    let window = window_of(bytes);
+    match front_at(0, false, false, window) {
+        Ok((insn, sizes, rest)) => {
+            Some(Measured {
+                insn,
+                len: (window.len() - rest.len()) as u8,
+                skip: sizes.skip,
+                disp: sizes.disp,
+                imm: sizes.imm,
+            })
         }
         Err(_) => None,
     }

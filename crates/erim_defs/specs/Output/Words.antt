@@ -18,6 +18,8 @@ pub data Command : Type 0 where
   Run : (image journal : Text) (workers steps frames : ℕ) → Command
   -- runs an image by a journal, and prints the report
   Replay : (image journal : Text) → Command
+  -- saves an image in which no sequence is unsafe, rewritten from another
+  Rewrite : (image out : Text) → Command
   -- saves the image that is made from a seed
   Gen : (seed : ℕ) (out : Text) → Command
   -- runs the image that is made from a seed, saves the journal of the run, and prints its line
@@ -96,6 +98,10 @@ abbrev pub replay_usage : Usage
 replay_usage =
     usage (codes "replay") (image ∷ journal ∷ []) [] (λ g. Replay (text g image) (text g journal))
 
+abbrev pub rewrite_usage : Usage
+rewrite_usage =
+    usage (codes "rewrite") (image ∷ out ∷ []) [] (λ g. Rewrite (text g image) (text g out))
+
 abbrev pub gen_usage : Usage
 gen_usage = usage (codes "gen") (seed ∷ out ∷ []) [] (λ g. Gen (value g seed 0) (text g out))
 
@@ -104,7 +110,8 @@ soak_usage =
     usage (codes "soak") (seed ∷ journal ∷ []) [] (λ g. Soak (value g seed 0) (text g journal))
 
 abbrev pub usages : List Usage
-usages = inspect_usage ∷ disasm_usage ∷ run_usage ∷ replay_usage ∷ gen_usage ∷ soak_usage ∷ []
+usages = inspect_usage ∷ disasm_usage ∷ run_usage ∷ replay_usage ∷ rewrite_usage ∷ gen_usage
+    ∷ soak_usage ∷ []
 
 -- what a usage means by the words behind its word
 abbrev pub meant : List Text → Usage → Option Command

@@ -2,7 +2,7 @@ use Rattle.std.proofs.Common.{map, inl, inr, refl}
 use Rattle.std.specs.String.{string_bytes}
 use Rattle.erim_defs.specs.Output.Words.{command_of}
 use Rattle.erim_commands.specs.declared.reply.Status.TheVariants.{ImageRefused}
-use Rattle.erim_commands.specs.declared.reply.Status.TheVariants.{JournalRefused}
+use Rattle.erim_commands.specs.declared.reply.Status.TheVariants.{JournalRefused, RewriteRefused}
 use Rattle.erim_commands.specs.Commands.{plan_for}
 use Rattle.erim_commands.specs.Delivery.{world}
 use Rattle.erim_commands.specs.Replies.{IsAnswer}
@@ -22,10 +22,12 @@ returns g c =
       words = tells_words words old new c.obey.result c.obey.ensures;
       image = tells_refusal ImageRefused words old new c.obey.result (inl refl) c.obey.ensures;
       journal =
-          tells_refusal JournalRefused words old new c.obey.result (inr refl) c.obey.ensures;
-      work = tells_work words old new c.obey.result c.obey.ensures;
+          tells_refusal JournalRefused words old new c.obey.result (inr (inl refl)) c.obey.ensures;
+      rewriting =
+          tells_refusal RewriteRefused words old new c.obey.result (inr (inr refl)) c.obey.ensures;
+      work = tells_work words old new c.obey.result c.answered.ensures c.obey.ensures;
       fault = tells_fault words old new c.obey.result c.obey.ensures;
       faultless = tells_faultless IsAnswer (plan_for words) old new c.obey.result c.obey.ensures;
       memory = tells_memory IsAnswer (plan_for words) old new c.obey.result c.obey.ensures;
-      complete = tells_complete words old new c.obey.result c.obey.ensures;
+      complete = tells_complete words old new c.obey.result c.answered.ensures c.obey.ensures;
     }

@@ -11,7 +11,7 @@ loop-part-preserved c =
           c.args.parts.now c.loop-part.part-index c.part-item.result c.part_place-place.result
           c.loop-part.end c.len-filesz.result
           c.loop-part-test.true c.part-item.is size c.part_place-place.ensures
-          c.in_ok-push_header.ensures c.loop-part.invariant.same);
+          c.in_ok-push_program_header.ensures c.loop-part.invariant.same);
       room = room_step c.args.parts.now c.loop-part.part-index c.part-item.result
           c.part_place-place.result c.loop-part.end c.len-filesz.result c.max-end.result _
           c.loop-part-test.true c.part-item.is size c.part_place-place.ensures c.max-end.ensures
@@ -25,9 +25,9 @@ returns-then-is_empty c =
 
 pub returns : goal.returns
 returns c =
-    on_ok_weaker c.push_header-2.result
-    (λ e. headers_last c.loop-part.bytes.items c.push_header-2.new.bytes.items _
+    on_ok_weaker c.push_program_header-2.result
+    (λ e. headers_last c.loop-part.bytes.items c.push_program_header-2.new.bytes.items _
     c.args.notes.now c.args.parts.now c.loop-part.part-index c.multiple_from.result
     c.loop-part.end _
     c.loop-part-test.false c.if-is_empty.ensures refl c.multiple_from.ensures e
-    c.loop-part.invariant.same) c.push_header-2.ensures
+    c.loop-part.invariant.same) c.push_program_header-2.ensures

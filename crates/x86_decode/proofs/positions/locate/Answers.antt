@@ -14,11 +14,12 @@ overflow_sub-len c =
 
 pub layout_of-requires : goal.layout_of-requires
 layout_of-requires c =
-    (read_so c.args.bytes.now c.window_of-window.result.now c.in-Ok.rest.now
+    let k = (read_so c.args.bytes.now c.window_of-window.result.now c.in-Ok.rest.now
     (c.in-Ok.insn, c.in-Ok.sizes.skip, c.in-Ok.sizes.disp, c.in-Ok.sizes.imm)
     c.window_of-window.ensures
     (window_bytes c.args.bytes.now c.window_of-window.result.now c.window_of-window.ensures
-    (λ i. omega (arith, c.type_inv.bytes i))) c.in-Ok.ensures).1.room
+    (λ i. omega (arith, c.type_inv.bytes i))) c.in-Ok.ensures).1 in
+    omega (arith, k.room)
 
 pub returns-in-Ok : goal.returns-in-Ok
 returns-in-Ok c =

@@ -1,0 +1,4 @@
+pub mod FileLemmas
+pub mod CauseLemmas
+pub mod RunLemmas
+pub mod AnswerLemmas

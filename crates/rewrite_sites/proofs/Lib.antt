@@ -1,0 +1,9 @@
+pub mod SweptLemmas
+pub mod AnyLemmas
+pub mod StretchLemmas
+pub mod FunctionLemmas
+pub mod ShortLemmas
+pub mod TargetLemmas
+pub mod RunLemmas
+pub mod ListLemmas
+pub mod ImageLemmas

@@ -1,0 +1,4 @@
+pub mod QuietLaws
+pub mod RunLaws
+pub mod ChainLaw
+pub mod PlaceLaws
