@@ -1,8 +1,9 @@
 // What a program for erim is written with: freestanding C for x86-64, integers alone.
 //
-// A program has ordinary functions and data, and what the macros below put into its trusted part:
-// TRUSTED before a function or a variable puts it there, and ENTRY makes a gate that ordinary code
-// calls. `build.sh` has the options.
+// A program has ordinary functions and data, and what the macros below put into its trusted part.
+// With one domain: TRUSTED before a function or SECRET before a variable puts it there, and ENTRY
+// makes a gate that ordinary code calls. With up to four domains that don't trust each other the
+// DOMAIN macros do the same for one of them. `build.sh` has the options.
 #ifndef ERIM_H
 #define ERIM_H
 
@@ -12,19 +13,35 @@ typedef unsigned char u8;
 typedef unsigned int u32;
 typedef unsigned long u64;
 
-// ---- the trusted part
+// ---- domains: each is a key, 1 to 4, or a macro that stands for one
+
+// A function of a domain. Only other functions of this domain call it, or a gate.
+#define DOMAIN_CODE(domain) \
+    __attribute__((section(".domain" GATE_WORD(domain) ".text"), noinline))
+
+// A variable of a domain. Its page has the domain's key.
+#define DOMAIN_DATA(domain) __attribute__((section(".domain" GATE_WORD(domain) ".data")))
+
+// The gate NAME, which calls the function FUNCTION of a domain with up to six numbers and gives
+// back its answer. It is for ordinary code: a domain that called it would still be open there.
+#define DOMAIN_ENTRY(domain, name, function) DOMAIN_GATE(GATE_WORD(domain), #name, #function)
+
+// All may read the variables of this domain; still only its own functions write them.
+#define INTEGRITY(domain) INTEGRITY_MARK(GATE_WORD(domain))
+
+// ---- the trusted part of a program with one domain: its key is 1
 
 // A function of the trusted part. Only other trusted functions call it, or a gate.
-#define TRUSTED __attribute__((section(".trusted.text"), noinline))
+#define TRUSTED DOMAIN_CODE(1)
 
 // A variable of the trusted part. Its page has key 1.
-#define SECRET __attribute__((section(".trusted.data")))
+#define SECRET DOMAIN_DATA(1)
 
 // The gate NAME, which calls the trusted function FUNCTION with up to six numbers and gives back
-// its answer.
+// its answer. A program with DOMAIN_ENTRY or INTEGRITY has no such gate.
 #define ENTRY(name, function) GATE(#name, #function)
 
-// The trusted heap, of so many bytes, a multiple of 4,096. talloc gives out its blocks.
+// The heap of domain 1, of so many bytes, a multiple of 4,096. talloc gives out its blocks.
 #define HEAP(bytes) \
     __asm__(".pushsection .trusted.heap, \"aw\", @nobits\n" \
             ".globl erim_heap\n" \
@@ -37,7 +54,10 @@ typedef unsigned long u64;
 
 // ---- system calls; an error is its number, negated
 
-static inline long call(long number, long a, long b, long c, long d) {
+// These stand where they are called, at -O0 too, so that a domain's code doesn't leave its text.
+#define HERE static inline __attribute__((always_inline))
+
+HERE long call(long number, long a, long b, long c, long d) {
     register long fourth __asm__("r10") = d;
     long answer;
     __asm__ volatile("syscall"
@@ -53,29 +73,29 @@ static inline long call(long number, long a, long b, long c, long d) {
 #define MAP_ANYWHERE 0x22
 #define MAP_AT 0x32
 
-static inline long write(int fd, const void *bytes, u64 count) {
+HERE long write(int fd, const void *bytes, u64 count) {
     return call(1, fd, (long)bytes, (long)count, 0);
 }
-static inline void *mmap(void *at, u64 bytes, int prot, int flags) {
+HERE void *mmap(void *at, u64 bytes, int prot, int flags) {
     return (void *)call(9, (long)at, (long)bytes, prot, flags);
 }
-static inline long mprotect(void *at, u64 bytes, int prot) {
+HERE long mprotect(void *at, u64 bytes, int prot) {
     return call(10, (long)at, (long)bytes, prot, 0);
 }
-static inline long munmap(void *at, u64 bytes) { return call(11, (long)at, (long)bytes, 0, 0); }
-static inline long sched_yield(void) { return call(24, 0, 0, 0, 0); }
-static inline long gettid(void) { return call(186, 0, 0, 0, 0); }
-static inline long pkey_mprotect(void *at, u64 bytes, int prot, int key) {
+HERE long munmap(void *at, u64 bytes) { return call(11, (long)at, (long)bytes, 0, 0); }
+HERE long sched_yield(void) { return call(24, 0, 0, 0, 0); }
+HERE long gettid(void) { return call(186, 0, 0, 0, 0); }
+HERE long pkey_mprotect(void *at, u64 bytes, int prot, int key) {
     return call(329, (long)at, (long)bytes, prot, key);
 }
-static inline long pkey_alloc(u32 flags, u32 rights) { return call(330, flags, rights, 0, 0); }
-static inline long pkey_free(int key) { return call(331, key, 0, 0, 0); }
+HERE long pkey_alloc(u32 flags, u32 rights) { return call(330, flags, rights, 0, 0); }
+HERE long pkey_free(int key) { return call(331, key, 0, 0, 0); }
 
-// For trusted functions alone.
-static inline void *talloc(u64 bytes) { return (void *)call(1000, (long)bytes, 0, 0, 0); }
-static inline long tfree(void *block) { return call(1001, (long)block, 0, 0, 0); }
+// For functions of domain 1 alone.
+HERE void *talloc(u64 bytes) { return (void *)call(1000, (long)bytes, 0, 0, 0); }
+HERE long tfree(void *block) { return call(1001, (long)block, 0, 0, 0); }
 
-static inline void __attribute__((noreturn)) exit_group(int status) {
+HERE void __attribute__((noreturn)) exit_group(int status) {
     for (;;) {
         call(231, status, 0, 0, 0);
     }

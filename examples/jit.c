@@ -1,6 +1,7 @@
-// A small just-in-time compiler: it reads a formula in x, as `3*x+4`, writes code for it into a
-// page that it mapped, makes the page executable, and calls it. The page is judged when it is first
-// executed.
+// A small just-in-time compiler: a page asks for reading, writing and execution; it writes a
+// formula's code there, calls it, and writes the next one, 1,000 times, without any other call. The
+// machine judges the page each time that it is executed after it was written, and it is never
+// writable and executable at once.
 #include "erim.h"
 
 // Code that leaves the formula's value in EAX, of x in EDI: mov, imul, add, sub, ret. It is
@@ -22,12 +23,17 @@ static volatile u8 *with_operation(volatile u8 *code, char operation, u32 number
     return with_number(code, number);
 }
 
-static void compile(volatile u8 *code, const char *formula) {
+// Compiles a formula in x, as `*3+4-n`, in which `n` stands for a number.
+static void compile(volatile u8 *code, const char *formula, u32 n) {
     *code++ = 0x89; // mov eax, edi
     *code++ = 0xF8;
     while (*formula != 0) {
         char operation = *formula++;
         u32 number = 0;
+        if (*formula == 'n') {
+            number = n;
+            formula++;
+        }
         while (*formula >= '0' && *formula <= '9') {
             number = 10 * number + (u32)(*formula++ - '0');
         }
@@ -37,13 +43,14 @@ static void compile(volatile u8 *code, const char *formula) {
 }
 
 int main(void) {
-    u8 *page = mmap(0, 4096, PROT_READ | PROT_WRITE, MAP_ANYWHERE);
-    compile(page, "*3+4*5-6");
-    if (mprotect(page, 4096, PROT_READ | PROT_EXEC) != 0) {
-        return 1;
-    }
+    u8 *page = mmap(0, 4096, PROT_READ | PROT_WRITE | PROT_EXEC, MAP_ANYWHERE);
     u32 (*formula)(u32) = (u32(*)(u32))page;
-    print("((x*3)+4)*5-6 of 100 is ");
-    print_number(formula(100));
+    u64 sum = 0;
+    for (u32 n = 1; n <= 1000; n++) {
+        compile(page, n % 2 == 0 ? "*n+4*5" : "*3-n", n);
+        sum += formula(n + 100);
+    }
+    print("1,000 formulas, sum ");
+    print_number(sum);
     return munmap(page, 4096) == 0 ? 0 : 2;
 }

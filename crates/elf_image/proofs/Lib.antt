@@ -1,3 +1,4 @@
+pub mod DomainLemmas
 pub mod FunctionLemmas
 pub mod ImageLemmas
 pub mod ListLemmas

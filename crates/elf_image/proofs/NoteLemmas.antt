@@ -14,7 +14,8 @@ use Rattle.erim_defs.specs.Inspection.Image.{header_note_fault, header_notes, he
 use Rattle.erim_defs.specs.Inspection.Image.{is_note_shaped, is_trust, is_versioned, item_count}
 use Rattle.erim_defs.specs.Inspection.Image.{name_size, next_note, note_at, note_end, note_fault}
 use Rattle.erim_defs.specs.Inspection.Image.{note_fault_between, notes, notes_between, notes_of}
-use Rattle.erim_defs.specs.Inspection.Image.{functions_in, image_functions, is_counted}
+use Rattle.erim_defs.specs.Inspection.Image.{functions_in, has_domains, has_domains_in}
+use Rattle.erim_defs.specs.Inspection.Image.{image_functions, is_counted}
 use Rattle.erim_defs.specs.Inspection.Image.{padded_size, records_in, version_fault}
 use Rattle.elf_image.specs.declared.functions.FunctionTable.{FunctionTable}
 use Rattle.elf_image.specs.declared.notes.NotesSeen.{NotesSeen}
@@ -24,7 +25,7 @@ use Rattle.elf_image.specs.Records.{table_records}
 use Rattle.elf_image.specs.Table.{header_of, headers_left}
 use Rattle.elf_image.specs.Notes.{HasFunctionsOf, HasItems, HasTableOf, IsReadBefore, IsReadTo}
 use Rattle.elf_image.specs.Notes.{functions_of, is_sound, nothing_seen, see, see_all}
-use Rattle.elf_image.specs.Notes.{seen_functions, seen_records, table_of}
+use Rattle.elf_image.specs.Notes.{seen_domains, seen_functions, seen_records, table_of}
 use Rattle.elf_image.proofs.TableLemmas.{headers_left-all, headers_left-next, headers_left-none}
 
 -- ---- what is known after notes
@@ -83,12 +84,12 @@ see_all-versioned bytes seen (n ∷ ns) =
     ∙ versioned_step seen.versioned (is_versioned bytes n)
     (list_any (λ n. not (is_versioned bytes n)) ns)
 
--- the items of a table that was seen before, or those of notes
-abbrev first_items : {T X : Type 0} → (T → List X) → Option T → List X → List X
+-- what a table that was seen before tells, or what notes do
+abbrev first_items : {T X : Type 0} → (T → X) → Option T → X → X
 first_items items None others = others
 first_items items (Some table) others = items table
 
-first_items-see : {T X : Type 0} (items : T → List X) (t : Option T) (new : T) (others : List X)
+first_items-see : {T X : Type 0} (items : T → X) (t : Option T) (new : T) (others : X)
     (b : Bool) → first_items items (cond b (or_else t (Some new)) t) others
     ≡ first_items items t (cond b (items new) others)
 first_items-see items None new others true = refl
@@ -100,6 +101,11 @@ first_items-records : (bytes : List ℕ) (t : Option RecordTable)
     → seen_records bytes t ≡ first_items (table_records bytes) t []
 first_items-records bytes None = refl
 first_items-records bytes (Some table) = refl
+
+first_items-domains : (t : Option RecordTable)
+    → seen_domains t ≡ first_items (λ (table : RecordTable). table.has_domains) t false
+first_items-domains None = refl
+first_items-domains (Some table) = refl
 
 first_items-functions : (bytes : List ℕ) (t : Option FunctionTable)
     → seen_functions bytes t ≡ first_items (table_functions bytes) t []
@@ -116,6 +122,16 @@ see_all-records bytes seen (n ∷ ns) =
     ∙ first_items-see (table_records bytes) seen.trust (table_of bytes n) (records_in bytes ns)
     (is_trust n)
 
+see_all-domains : (bytes : List ℕ) (seen : NotesSeen) (ns : List Note)
+    → seen_domains (see_all bytes seen ns).trust
+    ≡ first_items (λ (table : RecordTable). table.has_domains) seen.trust (has_domains_in bytes ns)
+unfolding see_all see
+see_all-domains bytes seen [] = first_items-domains seen.trust
+see_all-domains bytes seen (n ∷ ns) =
+    see_all-domains bytes (see bytes seen n) ns
+    ∙ first_items-see (λ (table : RecordTable). table.has_domains) seen.trust (table_of bytes n)
+    (has_domains_in bytes ns) (is_trust n)
+
 see_all-listed : (bytes : List ℕ) (seen : NotesSeen) (ns : List Note)
     → seen_functions bytes (see_all bytes seen ns).functions
     ≡ first_items (table_functions bytes) seen.functions (functions_in bytes ns)
@@ -131,6 +147,11 @@ pub seen-records : (bytes : List ℕ) (after : NotesSeen)
     → after ≡ see_all bytes nothing_seen (notes bytes)
     → seen_records bytes after.trust ≡ records_in bytes (notes bytes)
 seen-records bytes after e = rw e (see_all-records bytes nothing_seen (notes bytes))
+
+pub seen-domains : (bytes : List ℕ) (after : NotesSeen)
+    → after ≡ see_all bytes nothing_seen (notes bytes)
+    → seen_domains after.trust ≡ has_domains bytes
+seen-domains bytes after e = rw e (see_all-domains bytes nothing_seen (notes bytes))
 
 pub seen-functions : (bytes : List ℕ) (after : NotesSeen)
     → after ≡ see_all bytes nothing_seen (notes bytes)

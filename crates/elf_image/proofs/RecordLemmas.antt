@@ -5,7 +5,7 @@ use Rattle.std.specs.List.{list_any}
 use Rattle.erim_defs.specs.declared.segment.Segment.{Segment}
 use Rattle.erim_defs.specs.declared.fault.ImageFault.TheVariants.{BadRecord, TextNotExec, DataRange}
 use Rattle.erim_defs.specs.declared.fault.ImageFault.TheVariants.{EntryNotTrusted}
-use Rattle.erim_defs.specs.Inspection.Image.{Record, data_fault, entry_fault, holds_address}
+use Rattle.erim_defs.specs.Inspection.Image.{Record, data_fault, entry_fault, holds_entry}
 use Rattle.erim_defs.specs.Inspection.Image.{is_entry_record, is_placed_data, is_record, is_text}
 use Rattle.erim_defs.specs.Inspection.Image.{overlaps, record_at, record_fault, records_from}
 use Rattle.erim_defs.specs.Inspection.Image.{text_fault}
@@ -61,22 +61,26 @@ passing_if false b h = refl
 -- ---- records alone
 
 pub record_begins : (bytes : List ℕ) (table : RecordTable)
-    → record_fault 0 (seen_before bytes table 0) (records_left bytes table 0)
-    ≡ record_fault 0 [] (table_records bytes table)
+    → record_fault table.has_domains 0 (seen_before bytes table 0) (records_left bytes table 0)
+    ≡ record_fault table.has_domains 0 [] (table_records bytes table)
 unfolding seen_before
-record_begins bytes table = ap (record_fault 0 []) (records_left-all bytes table)
+record_begins bytes table = ap (record_fault table.has_domains 0 []) (records_left-all bytes table)
 
 pub record_stops : (bytes : List ℕ) (table : RecordTable) (index : ℕ) → index < table.count
-    → is_record (seen_before bytes table index) (record_of bytes table index) ≡ false
-    → record_fault index (seen_before bytes table index) (records_left bytes table index)
+    → is_record table.has_domains (seen_before bytes table index) (record_of bytes table index)
+    ≡ false
+    → record_fault table.has_domains index (seen_before bytes table index)
+    (records_left bytes table index)
     ≡ Some (BadRecord index)
 unfolding record_fault
 record_stops bytes table index h test = rw (records_left-next bytes table index h) (rw test refl)
 
 pub record_goes_on : (bytes : List ℕ) (table : RecordTable) (index : ℕ) → index < table.count
-    → is_record (seen_before bytes table index) (record_of bytes table index) ≡ true
-    → record_fault index (seen_before bytes table index) (records_left bytes table index)
-    ≡ record_fault (index + 1) (seen_before bytes table (index + 1))
+    → is_record table.has_domains (seen_before bytes table index) (record_of bytes table index)
+    ≡ true
+    → record_fault table.has_domains index (seen_before bytes table index)
+    (records_left bytes table index)
+    ≡ record_fault table.has_domains (index + 1) (seen_before bytes table (index + 1))
     (records_left bytes table (index + 1))
 unfolding record_fault seen_before
 record_goes_on bytes table index h test =
@@ -84,7 +88,8 @@ record_goes_on bytes table index h test =
     rw (records_left-next bytes table index h) (rw test (rw more refl))
 
 pub record_ends : (bytes : List ℕ) (table : RecordTable) (index : ℕ) → table.count ≤ index
-    → record_fault index (seen_before bytes table index) (records_left bytes table index) ≡ None
+    → record_fault table.has_domains index (seen_before bytes table index)
+    (records_left bytes table index) ≡ None
 unfolding record_fault
 record_ends bytes table index h = rw (records_left-none bytes table index h) refl
 
@@ -182,7 +187,7 @@ entry_begins all bytes table = ap (entry_fault 0 all []) (records_left-all bytes
 pub entry_stops : (all : List Record) (bytes : List ℕ) (table : RecordTable) (index : ℕ)
     → index < table.count
     → (is_entry_record (record_of bytes table index)
-    && not (is_in_text (record_of bytes table index).start all)) ≡ true
+    && not (is_in_text (record_of bytes table index) all)) ≡ true
     → entry_fault index all (seen_before bytes table index) (records_left bytes table index)
     ≡ Some (EntryNotTrusted index)
 unfolding entry_fault is_in_text
@@ -193,7 +198,7 @@ entry_stops all bytes table index h test =
 pub entry_goes_on : (all : List Record) (bytes : List ℕ) (table : RecordTable) (index : ℕ)
     → index < table.count
     → (is_entry_record (record_of bytes table index)
-    && not (is_in_text (record_of bytes table index).start all)) ≡ false
+    && not (is_in_text (record_of bytes table index) all)) ≡ false
     → entry_fault index all (seen_before bytes table index) (records_left bytes table index)
     ≡ entry_fault (index + 1) all (seen_before bytes table (index + 1))
     (records_left bytes table (index + 1))
@@ -209,34 +214,36 @@ pub entry_ends : (all : List Record) (bytes : List ℕ) (table : RecordTable) (i
 unfolding entry_fault
 entry_ends all bytes table index h = rw (records_left-none bytes table index h) refl
 
-pub in_text_begins : (a : ℕ) (bytes : List ℕ) (table : RecordTable)
-    → is_in_text a (records_left bytes table 0) ≡ is_in_text a (table_records bytes table)
-in_text_begins a bytes table = ap (is_in_text a) (records_left-all bytes table)
+pub in_text_begins : (e : Record) (bytes : List ℕ) (table : RecordTable)
+    → is_in_text e (records_left bytes table 0) ≡ is_in_text e (table_records bytes table)
+in_text_begins e bytes table = ap (is_in_text e) (records_left-all bytes table)
 
-in_text_next : (a : ℕ) (r : Record) (rs : List Record)
-    → is_in_text a (r ∷ rs) ≡ (holds_address a r || is_in_text a rs)
+in_text_next : (e : Record) (r : Record) (rs : List Record)
+    → is_in_text e (r ∷ rs) ≡ (holds_entry e r || is_in_text e rs)
 unfolding is_in_text
-in_text_next a r rs = refl
+in_text_next e r rs = refl
 
-pub in_text_stops : (a : ℕ) (bytes : List ℕ) (table : RecordTable) (index : ℕ) → index < table.count
-    → holds_address a (record_of bytes table index) ≡ true
-    → is_in_text a (records_left bytes table index) ≡ true
-in_text_stops a bytes table index h test =
-    rw (records_left-next bytes table index h) (in_text_next a _ _
-    ∙ ap (λ b. b || is_in_text a (records_left bytes table (index + 1))) test)
+pub in_text_stops : (e : Record) (bytes : List ℕ) (table : RecordTable) (index : ℕ)
+    → index < table.count
+    → holds_entry e (record_of bytes table index) ≡ true
+    → is_in_text e (records_left bytes table index) ≡ true
+in_text_stops e bytes table index h test =
+    rw (records_left-next bytes table index h) (in_text_next e _ _
+    ∙ ap (λ b. b || is_in_text e (records_left bytes table (index + 1))) test)
 
-pub in_text_goes_on : (a : ℕ) (bytes : List ℕ) (table : RecordTable) (index : ℕ)
-    → index < table.count → holds_address a (record_of bytes table index) ≡ false
-    → is_in_text a (records_left bytes table index)
-    ≡ is_in_text a (records_left bytes table (index + 1))
-in_text_goes_on a bytes table index h test =
-    rw (records_left-next bytes table index h) (in_text_next a _ _
-    ∙ ap (λ b. b || is_in_text a (records_left bytes table (index + 1))) test)
+pub in_text_goes_on : (e : Record) (bytes : List ℕ) (table : RecordTable) (index : ℕ)
+    → index < table.count → holds_entry e (record_of bytes table index) ≡ false
+    → is_in_text e (records_left bytes table index)
+    ≡ is_in_text e (records_left bytes table (index + 1))
+in_text_goes_on e bytes table index h test =
+    rw (records_left-next bytes table index h) (in_text_next e _ _
+    ∙ ap (λ b. b || is_in_text e (records_left bytes table (index + 1))) test)
 
-pub in_text_ends : (a : ℕ) (bytes : List ℕ) (table : RecordTable) (index : ℕ) → table.count ≤ index
-    → is_in_text a (records_left bytes table index) ≡ false
+pub in_text_ends : (e : Record) (bytes : List ℕ) (table : RecordTable) (index : ℕ)
+    → table.count ≤ index
+    → is_in_text e (records_left bytes table index) ≡ false
 unfolding is_in_text
-in_text_ends a bytes table index h = rw (records_left-none bytes table index h) refl
+in_text_ends e bytes table index h = rw (records_left-none bytes table index h) refl
 
 -- ---- by function, for the goals of its loop
 

@@ -13,7 +13,7 @@ use Rattle.erim_defs.specs.Inspection.Image.{head_fault, header_at, header_count
 use Rattle.erim_defs.specs.Inspection.Image.{header_size, headers, headers_from, is_in_file}
 use Rattle.erim_defs.specs.Inspection.Image.{is_noted, is_ranged, later_fault, machine, note_fault}
 use Rattle.erim_defs.specs.Inspection.Image.{notes, pages_of, range_fault, records, segment_fault}
-use Rattle.erim_defs.specs.Inspection.Image.{function_fault, image_functions}
+use Rattle.erim_defs.specs.Inspection.Image.{function_fault, has_domains, image_functions}
 use Rattle.erim_defs.specs.Inspection.Image.{segments, static_fault, table_place, trust_fault}
 use Rattle.erim_defs.proofs.FaultLemmas.{cond_fault, later_none, or_none}
 use Rattle.elf_image.specs.declared.functions.FunctionTable.{FunctionTable}
@@ -22,10 +22,12 @@ use Rattle.elf_image.specs.declared.pages.Purpose.TheVariants.{Execution}
 use Rattle.elf_image.specs.declared.records.RecordTable.{RecordTable}
 use Rattle.elf_image.specs.Form.{IsSeen}
 use Rattle.elf_image.specs.Functions.{table_functions}
-use Rattle.elf_image.specs.Notes.{HasNotes, nothing_seen, see_all, seen_functions, seen_records}
+use Rattle.elf_image.specs.Notes.{HasNotes, nothing_seen, see_all, seen_domains, seen_functions}
+use Rattle.elf_image.specs.Notes.{seen_records}
 use Rattle.elf_image.specs.Records.{is_held, records_fault, table_records}
 use Rattle.elf_image.specs.Table.{HasTable, header_of}
-use Rattle.elf_image.proofs.NoteLemmas.{seen-functions, seen-records, seen-versioned}
+use Rattle.elf_image.proofs.NoteLemmas.{seen-domains, seen-functions, seen-records}
+use Rattle.elf_image.proofs.NoteLemmas.{seen-versioned}
 
 if_none : (b : Bool) (fault : ImageFault) → fault_if b fault ≡ None → b ≡ false
 if_none true fault h = absurd cc
@@ -123,12 +125,15 @@ pub trust_records : (bytes : List ℕ) (seen : NotesSeen) (table : RecordTable)
     → note_fault bytes (headers bytes) false false ≡ None
     → seen ≡ see_all bytes nothing_seen (notes bytes)
     → seen.versioned ≡ true → table_records bytes table ≡ seen_records bytes seen.trust
+    → table.has_domains ≡ seen_domains seen.trust
     → trust_fault bytes ≡ records_fault bytes table
 unfolding trust_fault records_fault
-trust_records bytes seen table none seen_is good table_is =
+trust_records bytes seen table none seen_is good table_is domains_is =
     let same : records bytes ≡ table_records bytes table =
     sym (table_is ∙ seen-records bytes seen seen_is) in
-    rw (none, seen-versioned bytes seen seen_is, good, same) refl
+    let version : has_domains bytes ≡ table.has_domains =
+    sym (domains_is ∙ seen-domains bytes seen seen_is) in
+    rw (none, seen-versioned bytes seen seen_is, good, version, same) refl
 
 pub functions_are : (bytes : List ℕ) (seen : NotesSeen) (table : FunctionTable) → IsSeen bytes seen
     → table_functions bytes table ≡ seen_functions bytes seen.functions

@@ -6,8 +6,8 @@ use Rattle.erim_defs.specs.declared.fault.ImageFault.{ImageFault}
 use Rattle.erim_defs.specs.declared.trust.Span.{Span}
 use Rattle.erim_defs.specs.Inspection.Trust.{TrustValue}
 use Rattle.erim_defs.specs.Inspection.Image.{IsAccepted, Record, entry_point, first_fault}
-use Rattle.erim_defs.specs.Inspection.Image.{image_data, image_functions, image_heaps}
-use Rattle.erim_defs.specs.Inspection.Image.{image_trust, later_fault}
+use Rattle.erim_defs.specs.Inspection.Image.{data_keys, image_data, image_functions, image_heaps}
+use Rattle.erim_defs.specs.Inspection.Image.{image_trust, keys_of, later_fault}
 use Rattle.erim_defs.specs.Inspection.Image.{notes, segments, spans_of, trust_fault}
 use Rattle.elf_image.specs.declared.notes.NotesSeen.{NotesSeen}
 use Rattle.elf_image.specs.Notes.{HasItems, nothing_seen, see_all}
@@ -38,14 +38,19 @@ Checks bytes result = MatchResult result (λ seen. IsAccepted bytes
 unfoldable pub spans_in : ℕ → List Record → List Span
 spans_in kind rs = spans_of (λ r. r.kind == kind) rs
 
+-- and their keys
+unfoldable pub keys_in : ℕ → List Record → List ℕ
+keys_in kind rs = keys_of (λ r. r.kind == kind) rs
+
 -- the bytes are accepted, and the rest is what they tell
 pub record IsRead (bytes : List ℕ) (list : List Segment) (trust : TrustValue)
-    (trusted heaps functions : List Span) (entry : ℕ) : Type 0 where
+    (trusted : List Span) (keys : List ℕ) (heaps functions : List Span) (entry : ℕ) : Type 0 where
   pub accepted : IsAccepted bytes
   pub octets : AreBytes bytes
   pub list_is : list ≡ segments bytes
   pub trust_is : trust ≡ image_trust bytes
   pub trusted_is : trusted ≡ image_data bytes
+  pub keys_is : keys ≡ data_keys bytes
   pub heaps_is : heaps ≡ image_heaps bytes
   pub functions_is : functions ≡ image_functions bytes
   pub entry_is : entry ≡ entry_point bytes

@@ -1,3 +1,4 @@
+pub mod Domains
 pub mod Form
 pub mod Functions
 pub mod Notes

@@ -1,5 +1,5 @@
 -- What reading the notes of an image leaves known.
-use Rattle.std.specs.Prelude.{◌≡◌, ℕ, ◌+◌, ◌*◌, ◌<◌, ◌≤◌, ◌&&◌, nat_le, not, Bool, true}
+use Rattle.std.specs.Prelude.{◌≡◌, ℕ, ◌+◌, ◌*◌, ◌<◌, ◌≤◌, ◌==◌, ◌&&◌, nat_le, not, Bool, true}
 use Rattle.std.specs.Prelude.{false, Option, Some, None, is_some, IfSome, Result, MatchResult, List}
 use Rattle.std.specs.Prelude.{[], ◌∷◌, length, if◌then◌else◌}
 use Rattle.erim_defs.specs.Inspection.Code.{or_else}
@@ -10,7 +10,8 @@ use Rattle.erim_defs.specs.Inspection.Image.{header_notes, headers, is_functions
 use Rattle.erim_defs.specs.Inspection.Image.{is_note_shaped, is_noted, is_trust, is_versioned}
 use Rattle.erim_defs.specs.Inspection.Image.{item_count, note_at, note_end, note_fault}
 use Rattle.erim_defs.specs.Inspection.Image.{note_fault_between, notes, notes_between, notes_of}
-use Rattle.erim_defs.specs.Inspection.Image.{functions_from, records_from}
+use Rattle.erim_defs.specs.Inspection.Image.{functions_from, number_at, records_from}
+use Rattle.erim_defs.specs.declared.note.TheConstants.{DOMAINS_VERSION}
 use Rattle.elf_image.specs.declared.functions.FunctionTable.{FunctionTable}
 use Rattle.elf_image.specs.declared.notes.NotesSeen.{NotesSeen}
 use Rattle.elf_image.specs.declared.records.RecordTable.{RecordTable}
@@ -50,7 +51,11 @@ is_sound bytes place end trust functions =
 
 -- the records that a trust note tells
 abbrev pub table_of : List ℕ → Note → RecordTable
-table_of bytes note = record { place = note.desc + 8; count = item_count bytes note }
+table_of bytes note = record {
+  place = note.desc + 8;
+  count = item_count bytes note;
+  has_domains = number_at bytes note.desc 4 == DOMAINS_VERSION;
+}
 
 -- the functions that a functions note tells
 abbrev pub functions_of : List ℕ → Note → FunctionTable
@@ -76,6 +81,11 @@ see_all bytes seen (note ∷ others) = see_all bytes (see bytes seen note) other
 abbrev pub seen_records : List ℕ → Option RecordTable → List Record
 seen_records bytes None = []
 seen_records bytes (Some table) = records_from bytes table.place table.count
+
+-- has the trust note that was seen version 2
+abbrev pub seen_domains : Option RecordTable → Bool
+seen_domains None = false
+seen_domains (Some table) = table.has_domains
 
 -- the functions of what was seen
 abbrev pub seen_functions : List ℕ → Option FunctionTable → List Span

@@ -5,7 +5,7 @@ use Rattle.erim_defs.specs.Inspection.Code.{or_else}
 use Rattle.erim_defs.specs.declared.fault.ImageFault.{ImageFault}
 use Rattle.erim_defs.specs.declared.segment.Segment.{Segment}
 use Rattle.erim_defs.specs.Inspection.Image.{Record, all_pages, data_fault, entry_fault}
-use Rattle.erim_defs.specs.Inspection.Image.{holds_address, holds_data, holds_heap, holds_text}
+use Rattle.erim_defs.specs.Inspection.Image.{holds_data, holds_entry, holds_heap, holds_text}
 use Rattle.erim_defs.specs.Inspection.Image.{is_executable, is_page_of, lies_in, record_at}
 use Rattle.erim_defs.specs.Inspection.Image.{record_fault, records_from, segments, text_fault}
 use Rattle.elf_image.specs.declared.pages.Purpose.{Purpose}
@@ -28,14 +28,14 @@ unfoldable pub seen_before : List ℕ → RecordTable → ℕ → List Record
 seen_before bytes table zero = []
 seen_before bytes table (suc n) = record_of bytes table n ∷ seen_before bytes table n
 
--- an address lies in trusted text
-unfoldable pub is_in_text : ℕ → List Record → Bool
-is_in_text a rs = list_any (holds_address a) rs
+-- an entry lies in a text of its key
+unfoldable pub is_in_text : Record → List Record → Bool
+is_in_text e rs = list_any (holds_entry e) rs
 
 -- the first fault of the records alone
 unfoldable pub records_fault : List ℕ → RecordTable → Option ImageFault
 records_fault bytes table =
-    or_else (record_fault 0 [] (table_records bytes table))
+    or_else (record_fault table.has_domains 0 [] (table_records bytes table))
     (or_else (text_fault 0 (segments bytes) [] (table_records bytes table))
     (or_else (data_fault 0 (segments bytes) [] (table_records bytes table))
     (entry_fault 0 (table_records bytes table) [] (table_records bytes table))))

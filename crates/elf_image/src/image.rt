@@ -2,8 +2,11 @@
 
 ghost use Rattle.std.specs.Prelude.{◌≡◌, ℕ, ◌<◌, ◌≤◌, ◌^◌, List, length, sum_by, false, IsTrue};
 ghost use Rattle.std.specs.Prelude.{IfOk, MatchResult};
-ghost use Rattle.std.specs.List.{All, AllPairs};
-ghost use Rattle.erim_defs.specs.Inspection.Image.{IsAccepted, IsPlaced, entry_point, headers};
+ghost use Rattle.std.specs.List.{All, AllPairs, list_any};
+ghost use Rattle.erim_defs.specs.Inspection.Trust.{spans};
+ghost use Rattle.erim_defs.specs.Machine.Start.{page_key};
+ghost use Rattle.erim_defs.specs.Inspection.Image.{IsAccepted, IsPlaced, data_keys, entry_point};
+ghost use Rattle.erim_defs.specs.Inspection.Image.{headers};
 ghost use Rattle.erim_defs.specs.Inspection.Image.{image_data, image_functions, image_heaps};
 ghost use Rattle.erim_defs.specs.Inspection.Image.{image_trust};
 ghost use Rattle.erim_defs.specs.Inspection.Image.{page_count, page_total, segments, shares_page};
@@ -11,13 +14,15 @@ ghost use Rattle.erim_defs.specs.Encoding.Parts.{AreBytes};
 ghost use Rattle.erim_defs.specs.Rewriting.NewFile.{old_table};
 ghost use Rattle.elf_image.specs.Form.{IsSeen};
 
+use crate::domains::trust;
 use crate::field::{entry_point, header_count, table_place};
 use crate::header::Header;
-use crate::lists::{entries, functions, headers, segments, spans};
+use crate::lists::{functions, headers, keys, segments, spans};
 use crate::notes::NotesSeen;
 use erim_defs::elf::PROGRAM_HEADER_SIZE;
-use erim_defs::note::{TRUSTED_DATA, TRUSTED_HEAP, TRUSTED_TEXT};
-use erim_defs::{ImageFault, NoMemory, Segment, Span, Trust};
+use erim_defs::note::{TRUSTED_DATA, TRUSTED_HEAP};
+use erim_defs::page::{PAGE_SIZE, TRUSTED_KEY};
+use erim_defs::{ImageFault, NoMemory, Segment, Span, Trust, key_beside};
 use std::alloc::Global;
 use std::marker::Model;
 
@@ -36,6 +41,7 @@ pub struct Image {
     segments: Vec<Segment>,
     trust: Trust,
     trusted: Vec<Span>,
+    keys: Vec<u8>,
     heaps: Vec<Span>,
     functions: Vec<Span>,
     entry: u64,
@@ -51,7 +57,7 @@ impl Model for Image {
 
     ghost invariant = { λ image.
         IsRead image.bytes.items image.segments.items image.trust image.trusted.items
-        image.heaps.items image.functions.items image.entry };
+        image.keys.items image.heaps.items image.functions.items image.entry };
 }
 
 impl Image {
@@ -69,12 +75,11 @@ impl Image {
             (λ fault. fault ≡ ImageFault.Memory) }
     {
         let table = seen.records();
-        let texts = spans(alloc, bytes, table, TRUSTED_TEXT)?;
-        let trust = Trust::new(texts, entries(alloc, bytes, table)?);
         Ok(Image {
             segments: segments(alloc, bytes)?,
-            trust,
+            trust: trust(alloc, bytes, table)?,
             trusted: spans(alloc, bytes, table, TRUSTED_DATA)?,
+            keys: keys(alloc, bytes, table, TRUSTED_DATA)?,
             heaps: spans(alloc, bytes, table, TRUSTED_HEAP)?,
             functions: functions(alloc, bytes, seen.functions())?,
             entry: entry_point(bytes),
@@ -119,6 +124,8 @@ impl Image {
         // No two share a page.
         ensures apart { AllPairs (λ s t. shares_page s t ≡ false) result.now }
         ensures few { sum_by page_count result.now ≤ 4080 }
+        ensures accepted { IsAccepted self.now }
+        ensures octets { AreBytes self.now }
     {
         self.segments.as_slice()
     }
@@ -130,7 +137,7 @@ impl Image {
         self.entry
     }
 
-    /// The trusted text and its entries.
+    /// The domains of the image, with the text and the entries of each.
     pub fn trust(&self) -> &Trust
         ensures { result.now ≡ image_trust self.now }
     {
@@ -142,6 +149,36 @@ impl Image {
         ensures { result.now ≡ image_data self.now }
     {
         self.trusted.as_slice()
+    }
+
+    /// The key of each of `trusted_pages`, in their order.
+    pub fn page_keys(&self) -> &[u8]
+        ensures { result.now ≡ data_keys self.now }
+    {
+        self.keys.as_slice()
+    }
+
+    // Does a trusted heap hold an address?
+    fn is_in_heap(&self, address: u64) -> bool
+        ensures { result ≡ list_any (spans address) (image_heaps self.now) }
+    {
+        self.heaps.iter().any(|heap| heap.holds(address))
+    }
+
+    /// The key of a page at the start: that of the record of trusted data in which it lies, the
+    /// trusted key in a trusted heap, else key 0.
+    pub fn page_key(&self, page: u64) -> u8
+        requires { page < 2 ^ 35 }
+        ensures value { result ≡ page_key self.now page }
+        ensures bound { result < 16 }
+    {
+        let address = PAGE_SIZE * page;
+        let key = key_beside(self.trusted.as_slice(), self.keys.as_slice(), address);
+        if self.is_in_heap(address) {
+            TRUSTED_KEY
+        } else {
+            key
+        }
     }
 
     /// The ranges of trusted heaps.

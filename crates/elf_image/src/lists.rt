@@ -1,8 +1,8 @@
 //! The lists that an image tells.
 
-ghost use Rattle.std.specs.Prelude.{◌≡◌, IfOk};
-ghost use Rattle.erim_defs.specs.Inspection.Image.{headers, segments, starts_of};
-ghost use Rattle.elf_image.specs.Form.{spans_in};
+ghost use Rattle.std.specs.Prelude.{◌≡◌, [], IfOk, None};
+ghost use Rattle.erim_defs.specs.Inspection.Image.{headers, record_fault, segments, starts_of};
+ghost use Rattle.elf_image.specs.Form.{keys_in, spans_in};
 ghost use Rattle.elf_image.specs.Functions.{table_functions};
 ghost use Rattle.elf_image.specs.Notes.{HasFunctionsOf, HasTableOf};
 ghost use Rattle.elf_image.specs.Records.{table_records};
@@ -61,6 +61,28 @@ pub(crate) fn spans(
         let record = Record::read(bytes, table, index);
         if record.kind() == kind {
             list.push(record.span_of())?;
+        }
+    }
+    Ok(list)
+}
+
+/// The keys of the records of a kind.
+#[tactic(auto, using(crate::proofs::ListLemmas::keys_steps))]
+pub(crate) fn keys(
+    alloc: Global,
+    bytes: &[u8],
+    table: RecordTable,
+    kind: u32,
+) -> Result<Vec<u8>, AllocError>
+    requires table { HasTableOf bytes.now table }
+    requires sound { record_fault table.has_domains 0 [] (table_records bytes.now table) ≡ None }
+    ensures { IfOk result (λ list. list.items ≡ keys_in kind (table_records bytes.now table)) }
+{
+    let mut list = Vec::new(alloc);
+    for index in 0..table.count {
+        let record = Record::read(bytes, table, index);
+        if record.kind() == kind {
+            list.push(record.key() as u8)?;
         }
     }
     Ok(list)

@@ -4,7 +4,7 @@
 ghost use Rattle.std.specs.Prelude.{◌≡◌, ◌+◌, ◌≤◌, ◌<◌, ◌^◌, ◌&&◌, length, min, nat_le, true};
 ghost use Rattle.erim_defs.specs.Inspection.Image.{is_counted, is_functions, is_note_shaped};
 ghost use Rattle.erim_defs.specs.Inspection.Image.{is_trust, is_versioned, item_count, next_note};
-ghost use Rattle.erim_defs.specs.Inspection.Image.{note_at, note_end, padded_size};
+ghost use Rattle.erim_defs.specs.Inspection.Image.{note_at, note_end, number_at, padded_size};
 ghost use Rattle.elf_image.specs.Notes.{HasDesc, HasNote, functions_of, table_of};
 
 use crate::functions::FunctionTable;
@@ -13,7 +13,8 @@ use erim_defs::elf::{N_DESCSZ, N_TYPE, NOTE_HEADER_SIZE};
 use erim_defs::field::u32_at;
 use erim_defs::limits::{MOST_FUNCTIONS, MOST_RECORDS};
 use erim_defs::note::{
-    FUNCTION_SIZE, FUNCTIONS_NOTE, NOTE_COUNT, NOTE_ITEMS, NOTE_VERSION, RECORD_SIZE, TRUST_NOTE,
+    DOMAINS_VERSION, FUNCTION_SIZE, FUNCTIONS_NOTE, NOTE_COUNT, NOTE_ITEMS, NOTE_VERSION,
+    RECORD_SIZE, TRUST_NOTE,
 };
 use std::marker::Model;
 
@@ -117,6 +118,13 @@ impl<'a> Note<'a> {
         self.name == FUNCTIONS_NAME.as_slice() && self.kind == FUNCTIONS_NOTE
     }
 
+    fn version(&self, bytes: &[u8]) -> u32
+        requires { self.now.desc + 4 ≤ length bytes.now }
+        ensures { result ≡ number_at bytes.now self.now.desc 4 }
+    {
+        u32_at(bytes, self.desc)
+    }
+
     fn item_count(&self, bytes: &[u8]) -> u32
         requires { self.now.desc + 8 ≤ length bytes.now }
         ensures { result ≡ item_count bytes.now self.now }
@@ -152,13 +160,15 @@ impl<'a> Note<'a> {
         }
     }
 
-    /// Has a trust or functions note the version that is read?
+    /// Has a functions note version 1, and a trust note 1 or 2?
     pub(crate) fn is_versioned(&self, bytes: &[u8]) -> bool
         requires within { HasDesc bytes.now self.now }
         requires shaped { is_note_shaped bytes.now self.now ≡ true }
         ensures { result ≡ is_versioned bytes.now self.now }
     {
-        !(self.is_trust() || self.is_functions()) || u32_at(bytes, self.desc) == NOTE_VERSION
+        !(self.is_trust() || self.is_functions())
+            || self.version(bytes) == NOTE_VERSION
+            || (self.is_trust() && self.version(bytes) == DOMAINS_VERSION)
     }
 
     /// Where the records of a trust note stand.
@@ -171,6 +181,7 @@ impl<'a> Note<'a> {
         RecordTable {
             place: self.desc + NOTE_ITEMS as usize,
             count: self.item_count(bytes),
+            has_domains: self.version(bytes) == DOMAINS_VERSION,
         }
     }
 

@@ -4,7 +4,7 @@ ghost use Rattle.std.specs.Prelude.{◌≡◌, ℕ, ◌+◌, ◌≤◌, ◌<◌,
 ghost use Rattle.erim_defs.specs.Inspection.Image.{is_in_file, is_note_shaped, is_noted};
 ghost use Rattle.elf_image.specs.Notes.{HasDesc, HasFunctionsOf, HasItems, HasNotes, HasTableOf};
 ghost use Rattle.elf_image.specs.Notes.{Reads, ReadsAll, ReadsHeader, is_sound, see};
-ghost use Rattle.elf_image.specs.Notes.{seen_functions, seen_records};
+ghost use Rattle.elf_image.specs.Notes.{seen_domains, seen_functions, seen_records};
 ghost use Rattle.elf_image.specs.Functions.{table_functions};
 ghost use Rattle.elf_image.specs.Records.{table_records};
 ghost use Rattle.elf_image.specs.Table.{HasTable};
@@ -33,9 +33,14 @@ impl NotesSeen {
     pub(crate) fn records(self) -> RecordTable
         ensures same { (bytes : List ℕ) →
             table_records bytes result ≡ seen_records bytes self.trust }
+        ensures domains { result.has_domains ≡ seen_domains self.trust }
         ensures within { (bytes : List ℕ) → HasItems bytes self → HasTableOf bytes result }
     {
-        self.trust.unwrap_or(RecordTable { place: 0, count: 0 })
+        self.trust.unwrap_or(RecordTable {
+            place: 0,
+            count: 0,
+            has_domains: false,
+        })
     }
 
     /// The functions of the functions note, or none.

@@ -1,8 +1,9 @@
 //! A record of the trust note: its kind and its key of 4 bytes each, then start and length of 8.
 
 ghost use Rattle.std.specs.Prelude.{◌≡◌, ◌+◌, ◌%◌, ◌^◌, ◌<◌, ◌==◌, ◌&&◌, nat_le, nat_lt};
-ghost use Rattle.erim_defs.specs.Inspection.Image.{holds_address, is_entry_record, is_range};
-ghost use Rattle.erim_defs.specs.Inspection.Image.{is_text, overlaps, span_of};
+ghost use Rattle.erim_defs.specs.Inspection.Image.{holds_entry, is_entry_record, is_keyed_record};
+ghost use Rattle.erim_defs.specs.Inspection.Image.{is_mark, is_range, is_text, marks, overlaps};
+ghost use Rattle.erim_defs.specs.Inspection.Image.{span_of};
 ghost use Rattle.elf_image.specs.Notes.{HasTableOf};
 ghost use Rattle.elf_image.specs.Records.{record_of};
 
@@ -10,8 +11,8 @@ use crate::records::RecordTable;
 use erim_defs::Span;
 use erim_defs::field::{u32_at, u64_at};
 use erim_defs::note::{
-    RECORD_KEY, RECORD_LENGTH, RECORD_SIZE, RECORD_START, TRUSTED_DATA, TRUSTED_ENTRY,
-    TRUSTED_HEAP, TRUSTED_TEXT,
+    INTEGRITY_DOMAIN, MOST_DOMAINS, RECORD_KEY, RECORD_LENGTH, RECORD_SIZE, RECORD_START,
+    TRUSTED_DATA, TRUSTED_ENTRY, TRUSTED_HEAP, TRUSTED_TEXT,
 };
 use erim_defs::page::{PAGE_SIZE, TRUSTED_KEY, USER_END};
 use std::marker::Model;
@@ -57,6 +58,12 @@ impl Record {
         self.kind
     }
 
+    pub(crate) fn key(&self) -> u32
+        ensures { result ≡ self.now.key }
+    {
+        self.key
+    }
+
     pub(crate) fn start(&self) -> u64
         ensures { result ≡ self.now.start }
     {
@@ -78,11 +85,12 @@ impl Record {
         }
     }
 
-    /// Does it have the key of trusted memory?
-    pub(crate) fn is_keyed(&self) -> bool
-        ensures { result ≡ (self.now.key == 1) }
+    /// Does it have a key that its kind may have? Domains say whether its note has version 2.
+    pub(crate) fn is_keyed(&self, domains: bool) -> bool
+        ensures { result ≡ is_keyed_record domains self.now }
     {
         self.key == u32::from(TRUSTED_KEY)
+            || (domains && self.kind != TRUSTED_HEAP && self.key > 0 && self.key <= MOST_DOMAINS)
     }
 
     /// Does it tell trusted text?
@@ -97,6 +105,20 @@ impl Record {
         ensures { result ≡ is_entry_record self.now }
     {
         self.kind == TRUSTED_ENTRY
+    }
+
+    /// Does it mark an integrity domain?
+    pub(crate) fn is_mark(&self) -> bool
+        ensures { result ≡ is_mark self.now }
+    {
+        self.kind == INTEGRITY_DOMAIN
+    }
+
+    /// Does it mark this key as an integrity domain?
+    pub(crate) fn marks(&self, key: u32) -> bool
+        ensures { result ≡ marks key self.now }
+    {
+        self.is_mark() && self.key == key
     }
 
     /// Does it tell text, data or a heap?
@@ -127,11 +149,14 @@ impl Record {
             && is_below_end(other.start, self.start, self.length)
     }
 
-    /// Does its trusted text hold the address?
-    pub(crate) fn holds_address(&self, address: u64) -> bool
-        ensures { result ≡ holds_address address self.now }
+    /// Is it the text, of the entry's key, that holds the entry?
+    pub(crate) fn holds_entry(&self, entry: &Record) -> bool
+        ensures { result ≡ holds_entry entry.now self.now }
     {
-        self.is_text() && self.start <= address && is_below_end(address, self.start, self.length)
+        self.is_text()
+            && self.key == entry.key
+            && self.start <= entry.start
+            && is_below_end(entry.start, self.start, self.length)
     }
 }
 

@@ -3,13 +3,15 @@
 ghost use Rattle.std.specs.Prelude.{◌≡◌, ◌≤◌, []};
 ghost use Rattle.std.specs.List.{list_any};
 ghost use Rattle.erim_defs.specs.Inspection.Image.{data_fault, entry_fault, is_placed_data};
-ghost use Rattle.erim_defs.specs.Inspection.Image.{is_record, overlaps, record_fault, segments};
+ghost use Rattle.erim_defs.specs.Inspection.Image.{is_new_mark, is_record, overlaps, record_fault};
+ghost use Rattle.erim_defs.specs.Inspection.Image.{segments};
 ghost use Rattle.erim_defs.specs.Inspection.Image.{text_fault};
 ghost use Rattle.elf_image.specs.Notes.{HasTableOf};
 ghost use Rattle.elf_image.specs.Records.{is_in_text, record_of, records_fault, seen_before};
 ghost use Rattle.elf_image.specs.Records.{table_records};
 ghost use Rattle.elf_image.specs.Table.{HasTable};
 
+use crate::domains::marked_earlier;
 use crate::pages::{Purpose, is_lying};
 use crate::record::Record;
 use erim_defs::ImageFault;
@@ -20,6 +22,8 @@ use erim_defs::note::{TRUSTED_DATA, TRUSTED_HEAP};
 pub(crate) struct RecordTable {
     pub(crate) place: usize,
     pub(crate) count: u32,
+    /// Has its note version 2?
+    pub(crate) has_domains: bool,
 }
 
 /// The first fault of the records.
@@ -35,11 +39,12 @@ pub(crate) fn records_fault(bytes: &[u8], table: RecordTable) -> Option<ImageFau
         .or_else(|| entry_fault(bytes, table))
 }
 
-// The first record with a wrong kind, key, start or length, or that overlaps with an earlier one.
+// The first record with a wrong kind, key, start or length, that overlaps with an earlier one, or
+// that marks a key again.
 #[tactic(auto, using(crate::proofs::RecordLemmas::record_steps))]
 fn record_fault(bytes: &[u8], table: RecordTable) -> Option<ImageFault>
     requires { HasTableOf bytes.now table }
-    ensures { result ≡ record_fault 0 [] (table_records bytes.now table) }
+    ensures { result ≡ record_fault table.has_domains 0 [] (table_records bytes.now table) }
 {
     for index in 0..table.count {
         let record = Record::read(bytes, table, index);
@@ -50,19 +55,31 @@ fn record_fault(bytes: &[u8], table: RecordTable) -> Option<ImageFault>
     None
 }
 
-// Is it a record that may stand behind those before an index?
+// Is it a record that may stand after those before an index?
 fn is_record(bytes: &[u8], table: RecordTable, index: u32, item: &Record) -> bool
     requires table { HasTableOf bytes.now table }
     requires index { index ≤ table.count }
-    ensures { result ≡ is_record (seen_before bytes.now table index) item.now }
+    ensures { result ≡ is_record table.has_domains (seen_before bytes.now table index) item.now }
 {
-    if !item.is_keyed() {
+    if !item.is_keyed(table.has_domains) {
         return false;
     }
     if item.is_entry_record() {
         return item.length() == 0;
     }
+    if item.is_mark() {
+        return table.has_domains && is_new_mark(bytes, table, index, item);
+    }
     item.is_range() && item.is_paged() && !overlaps_earlier(bytes, table, index, item)
+}
+
+// Has a mark no range, and is it the first of its key?
+fn is_new_mark(bytes: &[u8], table: RecordTable, index: u32, item: &Record) -> bool
+    requires table { HasTableOf bytes.now table }
+    requires index { index ≤ table.count }
+    ensures { result ≡ is_new_mark (seen_before bytes.now table index) item.now }
+{
+    item.start() == 0 && item.length() == 0 && !marked_earlier(bytes, table, index, item.key())
 }
 
 // Does it overlap with a range of the records before an index?
@@ -123,7 +140,7 @@ fn is_placed_data(bytes: &[u8], item: &Record) -> bool
     }
 }
 
-// The first entry outside of trusted text.
+// The first entry outside of the text of its key.
 #[tactic(auto, using(crate::proofs::RecordLemmas::entry_steps))]
 fn entry_fault(bytes: &[u8], table: RecordTable) -> Option<ImageFault>
     requires { HasTableOf bytes.now table }
@@ -132,21 +149,21 @@ fn entry_fault(bytes: &[u8], table: RecordTable) -> Option<ImageFault>
 {
     for index in 0..table.count {
         let record = Record::read(bytes, table, index);
-        if record.is_entry_record() && !is_in_text(bytes, table, record.start()) {
+        if record.is_entry_record() && !is_in_text(bytes, table, &record) {
             return Some(ImageFault::EntryNotTrusted { index });
         }
     }
     None
 }
 
-// Does the address lie in trusted text of the table?
+// Does the entry lie in a text of its key?
 #[tactic(auto, using(crate::proofs::RecordLemmas::in_text_steps))]
-fn is_in_text(bytes: &[u8], table: RecordTable, address: u64) -> bool
+fn is_in_text(bytes: &[u8], table: RecordTable, entry: &Record) -> bool
     requires { HasTableOf bytes.now table }
-    ensures { result ≡ is_in_text address (table_records bytes.now table) }
+    ensures { result ≡ is_in_text entry.now (table_records bytes.now table) }
 {
     for index in 0..table.count {
-        if Record::read(bytes, table, index).holds_address(address) {
+        if Record::read(bytes, table, index).holds_entry(entry) {
             return true;
         }
     }

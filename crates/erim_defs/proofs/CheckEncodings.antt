@@ -1,7 +1,10 @@
 -- What the bytes of the checks encode.
 use Rattle.std.proofs.Common.{◌≡◌, ℕ, nat_lt, true, false, List, []}
 use Rattle.std.proofs.Common.{◌∷◌, length, take, refl, ap, subst}
-use Rattle.std.specs.Prelude.{pos, negsuc}
+use Rattle.std.specs.Prelude.{pos, negsuc, ◌^◌, ◌<◌, ◌%◌, ◌/◌}
+use Rattle.std.specs.Int.{w32, to_le_bytes, from_le_bytes, cast_signed}
+use Rattle.std.proofs.lemmas.Nat.{from_le_bytes-to_le_bytes_4}
+use Rattle.std.proofs.Common.{arith, lt-ltb}
 use Rattle.std.proofs.lemmas.Bool.{ltb-true}
 use Rattle.erim_defs.specs.declared.insn.AluOp.TheVariants.{Xor, Cmp}
 use Rattle.erim_defs.specs.declared.insn.Decoded.TheVariants as outcomes
@@ -109,3 +112,24 @@ unfolding decode front_at f3_at rex_at body_at tail_at modrm_follows row_at with
     is_rex prefix_lead admits fields_of insn_of arithmetic_of move_of flow_of system_of
     operand_width rex_width alu_op rm_place reg_place register_named opcode_reg imm8
 encodes_jae = is_encoding (0x73 ∷ 0x07 ∷ []) (Jcc 3 (pos 7)) 0 refl refl
+
+-- a comparison with any number
+pub encodes_compare : (v : ℕ) → v < 2 ^ 32
+    → Encodes (0x3D ∷ to_le_bytes w32 v) (Alu Cmp W4 (Reg 0) (Imm (cast_signed w32 v)) false) 0
+unfolding decode front_at f3_at rex_at body_at tail_at modrm_follows row_at without_modrm_at
+    behind_modrm_at modrm_at operand_at sib_at has_sib disp_size place_of reg_with_bit is_prefix
+    is_rex prefix_lead admits fields_of insn_of arithmetic_of move_of flow_of system_of
+    operand_width rex_width alu_op rm_place reg_place register_named opcode_reg
+encodes_compare v few =
+    let bytes : List ℕ = 0x3D ∷ to_le_bytes w32 v in
+    let P : ℕ → Type 0 = λ n. Encodes bytes (Alu Cmp W4 (Reg 0) (Imm
+    (cast_signed w32 n)) false) 0 in
+    subst P (from_le_bytes-to_le_bytes_4 v few)
+    (is_encoding bytes (Alu Cmp W4 (Reg 0) (Imm (cast_signed w32 (from_le_bytes w32 (to_le_bytes w32
+    v)))) false) 0 (bytes_fit v) refl)
+  where
+    small : (n : ℕ) → nat_lt (n % 256) 256 ≡ true
+    small n = lt-ltb _ _ (omega arith)
+
+    bytes_fit : (n : ℕ) → every (λ b. nat_lt b 256) (0x3D ∷ to_le_bytes w32 n) ≡ true
+    bytes_fit n = rw (small n, small (n / 256), small (n / 65536), small (n / 16777216)) refl

@@ -7,26 +7,26 @@ use Rattle.erim_defs.specs.Inspection.Check.{Compare, Branch, Number, Leave, che
 use Rattle.erim_defs.specs.Inspection.Check.{check_insn}
 use Rattle.erim_defs.specs.Inspection.Check.{position_start, closed_value}
 use Rattle.erim_defs.specs.Encoding.Decoding.{decode}
-use Rattle.erim_defs.specs.Inspection.Trust.{TrustValue}
+use Rattle.erim_defs.specs.Inspection.Trust.{TrustValue, pkru_of, plain_trust}
 use Rattle.erim_defs.proofs.SmallMachine.{step_by}
 
 no_trust : TrustValue
-no_trust = record { texts = []; entries = [] }
+no_trust = plain_trust [] []
 
 check :
     check_of no_trust Wrpkru 0x401003
     ≡ 0x3D ∷ 0x54 ∷ 0x55 ∷ 0x55 ∷ 0x55 ∷ 0x74 ∷ 0x07 ∷ 0xB8 ∷ 0xE7 ∷ 0 ∷ 0 ∷ 0 ∷ 0x0F ∷ 0x05 ∷ []
-unfolding check_of no_trust
+unfolding pkru_of check_of no_trust
 check = refl
 
 starts :
     map (position_start no_trust Wrpkru 0x401003) (Compare ∷ Branch ∷ Number ∷ Leave ∷ [])
     ≡ 0 ∷ 5 ∷ 7 ∷ 12 ∷ []
-unfolding no_trust
+unfolding pkru_of no_trust
 starts = refl
 
 closed : closed_value no_trust ≡ 0x55555554
-unfolding no_trust
+unfolding pkru_of no_trust
 closed = refl
 
 -- the bytes of each position are its instruction
@@ -37,5 +37,5 @@ instructions :
     ∷ Insn (check_insn no_trust Wrpkru 0x401003 Branch) 2 0
     ∷ Insn (check_insn no_trust Wrpkru 0x401003 Number) 5 0
     ∷ Insn (check_insn no_trust Wrpkru 0x401003 Leave) 2 0 ∷ []
-unfolding step_by no_trust
+unfolding pkru_of step_by no_trust
 instructions = refl

@@ -3,7 +3,8 @@ use Rattle.std.proofs.Common.{◌≡◌, ℕ, not, Bool, true, false, cond, List
 use Rattle.std.proofs.Common.{None, refl}
 use Rattle.erim_defs.specs.Inspection.Code.{or_else}
 use Rattle.erim_defs.specs.Inspection.Image.{IsAccepted, data_fault, entry_fault, first_fault}
-use Rattle.erim_defs.specs.Inspection.Image.{head_fault, header_fault, headers, later_fault}
+use Rattle.erim_defs.specs.Inspection.Image.{has_domains, head_fault, header_fault, headers}
+use Rattle.erim_defs.specs.Inspection.Image.{later_fault}
 use Rattle.erim_defs.specs.Inspection.Image.{range_fault, record_fault, records, segment_fault}
 use Rattle.erim_defs.specs.Inspection.Image.{segments, shared_fault, text_fault, trust_fault}
 
@@ -27,7 +28,7 @@ not_true false h = refl
 pub record HasNoFault (image : List ℕ) : Type 0 where
   pub ranged : range_fault (length image) 0 [] (headers image) ≡ None
   pub shared : shared_fault 0 [] (headers image) ≡ None
-  pub recorded : record_fault 0 [] (records image) ≡ None
+  pub recorded : record_fault (has_domains image) 0 [] (records image) ≡ None
   pub texts : text_fault 0 (segments image) [] (records image) ≡ None
   pub placed : data_fault 0 (segments image) [] (records image) ≡ None
   pub entered : entry_fault 0 (records image) [] (records image) ≡ None
@@ -46,7 +47,7 @@ sound_of image h =
     let headed = or_none _ _ (or_none _ _ p.0).1 in
     let trust = (or_none (trust_fault image) _ p.1).0 in
     let noted = (or_none _ _ (or_none _ _ trust).1).1 in
-    let own = or_none (record_fault 0 [] (records image)) _ noted in
+    let own = or_none (record_fault (has_domains image) 0 [] (records image)) _ noted in
     let text = or_none (text_fault 0 (segments image) [] (records image)) _ own.1 in
     let lain = or_none (data_fault 0 (segments image) [] (records image)) _ text.1 in
     record {

@@ -3,22 +3,22 @@ use Rattle.std.proofs.Common.{◌≡◌, [], ◌∷◌, Some, None, map, refl}
 use Rattle.erim_defs.specs.declared.found.SeqKind.TheVariants.{Wrpkru, Xrstor}
 use Rattle.erim_defs.specs.Inspection.Check.{check_of}
 use Rattle.erim_defs.specs.Inspection.Gate.{gate_in, gate_out, position_in_check}
-use Rattle.erim_defs.specs.Inspection.Trust.{TrustValue}
+use Rattle.erim_defs.specs.Inspection.Trust.{TrustValue, pkru_of, plain_trust}
 
 no_trust : TrustValue
-no_trust = record { texts = []; entries = [] }
+no_trust = plain_trust [] []
 
 into_text :
     gate_in no_trust
     ≡ 0x31 ∷ 0xC9 ∷ 0x31 ∷ 0xD2 ∷ 0xB8 ∷ 0x50 ∷ 0x55 ∷ 0x55 ∷ 0x55 ∷ 0x0F ∷ 0x01 ∷ 0xEF ∷ []
-unfolding gate_in
+unfolding no_trust pkru_of gate_in
 into_text = refl
 
 out_of_text :
     gate_out no_trust
     ≡ 0x31 ∷ 0xC9 ∷ 0x31 ∷ 0xD2 ∷ 0xB8 ∷ 0x54 ∷ 0x55 ∷ 0x55 ∷ 0x55 ∷ 0x0F ∷ 0x01 ∷ 0xEF ∷ 0x3D
     ∷ 0x54 ∷ 0x55 ∷ 0x55 ∷ 0x55 ∷ 0x74 ∷ 0x07 ∷ 0xB8 ∷ 0xE7 ∷ 0 ∷ 0 ∷ 0 ∷ 0x0F ∷ 0x05 ∷ []
-unfolding gate_out check_of
+unfolding no_trust pkru_of gate_out check_of
 out_of_text = refl
 
 positions_behind_wrpkru :

@@ -1,6 +1,7 @@
 -- The faults, segments, records and code of the small image and of ones that differ from it in a
 -- byte, computed. ELF-64, "File header", "Program header" and "Note section"; the trust note is
 -- own.
+use Rattle.erim_defs.specs.Inspection.Trust.{plain_trust}
 use Rattle.std.proofs.Common.{◌≡◌, ℕ, ◌+◌, List, [], ◌∷◌, ◌++◌, length, Option, Some, None, take}
 use Rattle.std.proofs.Common.{map, true, false, refl}
 use Rattle.std.specs.Prelude.{slice_set}
@@ -139,7 +140,7 @@ note_shape :
 unfolding fault_of
 note_shape = refl
 
-note_version : fault_of (with_byte 548 2) ≡ Some NoteVersion
+note_version : fault_of (with_byte 548 3) ≡ Some NoteVersion
 unfolding fault_of
 note_version = refl
 
@@ -315,15 +316,15 @@ all_segments = refl
 
 trust :
     image_trust small_image
-    ≡ record { texts = record { start = 0x402000; length = 4096 } ∷ []; entries = 0x402007 ∷ [] }
+    ≡ plain_trust (record { start = 0x402000; length = 4096 } ∷ []) (0x402007 ∷ [])
 unfolding fault_of image_trust
 trust = refl
 
 -- notes of alignment 8, of another name and of another type are passed over
 no_trust :
     map image_trust (with_byte 504 8 ∷ with_byte 540 0x65 ∷ with_byte 536 3 ∷ [])
-    ≡ record { texts = []; entries = [] } ∷ record { texts = []; entries = [] }
-    ∷ record { texts = []; entries = [] } ∷ []
+    ≡ plain_trust [] [] ∷ plain_trust [] []
+    ∷ plain_trust [] [] ∷ []
 unfolding fault_of image_trust
 no_trust = refl
 

@@ -1,4 +1,5 @@
 -- The parts of the isolation invariant on small pages and threads: which keep it, and which don't.
+use Rattle.erim_defs.specs.Inspection.Trust.{pkru_of, plain_trust}
 use Rattle.std.proofs.Common.{◌≡◌, ℕ, ◌+◌, [], ◌∷◌, Some, None, true, false, refl, subst, arith}
 use Rattle.std.proofs.Common.{lit<, ◌<◌}
 use Rattle.erim_defs.specs.declared.found.Found.{Found}
@@ -65,7 +66,7 @@ asked_above_7 h = let few : 9 < 8 = h.sound.1 in absurd (omega (arith, few))
 -- ---- a thread at each instruction of its check: WRPKRU at 0x401000, and the check behind it
 
 trust : TrustValue
-trust = record { texts = []; entries = [] }
+trust = plain_trust [] []
 
 code : Code
 code =
@@ -82,7 +83,7 @@ opened_at rip rax = record (thread_at rip rax 0 0) { pkru = 0x55555550; origin =
 
 -- EAX isn't 0x55555554
 at_the_comparison : IsInCheck trust code (opened_at 0x401003 0x55555550)
-unfolding trust code origin opened_at occurrence_at
+unfolding pkru_of trust code origin opened_at occurrence_at
 at_the_comparison =
     record {
       origin = origin;
@@ -96,7 +97,7 @@ at_the_comparison =
 
 -- ZF is 0
 at_the_branch : IsInCheck trust code (opened_at 0x401008 0x55555550)
-unfolding trust code origin opened_at occurrence_at
+unfolding pkru_of trust code origin opened_at occurrence_at
 at_the_branch =
     record {
       origin = origin;
@@ -109,7 +110,7 @@ at_the_branch =
     }
 
 at_the_number : IsInCheck trust code (opened_at 0x40100A 0x55555550)
-unfolding trust code origin opened_at occurrence_at
+unfolding pkru_of trust code origin opened_at occurrence_at
 at_the_number =
     record {
       origin = origin;
@@ -123,7 +124,7 @@ at_the_number =
 
 -- RAX is 231
 at_the_call : IsInCheck trust code (opened_at 0x40100F 231)
-unfolding trust code origin opened_at occurrence_at
+unfolding pkru_of trust code origin opened_at occurrence_at
 at_the_call =
     record {
       origin = origin;
@@ -153,7 +154,7 @@ refuted t from none_fits h =
 
 -- at the comparison with EAX 0x55555554
 closed_at_the_comparison : IsInCheck trust code (opened_at 0x401003 0x155555554) → ⊥
-unfolding trust origin opened_at
+unfolding pkru_of trust origin opened_at
 closed_at_the_comparison = refuted (opened_at 0x401003 0x155555554) refl by
   where
     by : (p : Position) → 0x401003 ≡ 0x401003 + position_start trust Wrpkru 0x401003 p
@@ -167,7 +168,7 @@ closed_at_the_comparison = refuted (opened_at 0x401003 0x155555554) refl by
 equal_at_the_branch :
     let t = record (opened_at 0x401008 0) { flags = record no_flags { zf = true } } in
     IsInCheck trust code t → ⊥
-unfolding trust origin opened_at
+unfolding pkru_of trust origin opened_at
 equal_at_the_branch =
     refuted (record (opened_at 0x401008 0) { flags = record no_flags { zf = true } }) refl by
   where
@@ -182,7 +183,7 @@ equal_at_the_branch =
 
 -- at the call with another number
 other_number_at_the_call : IsInCheck trust code (opened_at 0x40100F 60) → ⊥
-unfolding trust origin opened_at
+unfolding pkru_of trust origin opened_at
 other_number_at_the_call = refuted (opened_at 0x40100F 60) refl by
   where
     by : (p : Position) → 0x40100F ≡ 0x401003 + position_start trust Wrpkru 0x401003 p
@@ -194,7 +195,7 @@ other_number_at_the_call = refuted (opened_at 0x40100F 60) refl by
 
 -- within an instruction
 within_the_comparison : IsInCheck trust code (opened_at 0x401004 0) → ⊥
-unfolding trust origin opened_at
+unfolding pkru_of trust origin opened_at
 within_the_comparison = refuted (opened_at 0x401004 0) refl by
   where
     by : (p : Position) → 0x401004 ≡ 0x401003 + position_start trust Wrpkru 0x401003 p

@@ -1,4 +1,5 @@
 -- Publication, origins and escapes, computed on small states. Own, after ERIM.
+use Rattle.erim_defs.specs.Inspection.Trust.{pkru_of, plain_trust}
 use Rattle.std.proofs.Common.{◌≡◌, ℕ, ◌==◌, ◌≤◌, ◌^◌, ◌+◌, length, lit≤, List, [], ◌∷◌, Option}
 use Rattle.std.proofs.Common.{Some, None, false, true, map, refl}
 use Rattle.std.specs.Prelude.{if◌then◌else◌}
@@ -343,7 +344,7 @@ code_with_page = refl
 
 -- the trust of the small image
 trust : TrustValue
-trust = record { texts = record { start = 0x402000; length = 4096 } ∷ []; entries = 0x402007 ∷ [] }
+trust = plain_trust (record { start = 0x402000; length = 4096 } ∷ []) (0x402007 ∷ [])
 
 trust_of_image : image_trust small_image ≡ trust
 unfolding trust small_image number_at headers_from headers notes_between notes records_from
@@ -392,7 +393,7 @@ harmless = 0x90 ∷ 0x90 ∷ 0xB8 ∷ 0xE7 ∷ 0 ∷ 0 ∷ 0 ∷ 0x90 ∷ []
 found :
     map found_in (itself ∷ across ∷ two ∷ checked ∷ harmless ∷ [])
     ≡ Some (wrpkru 0x40B001) ∷ Some (wrpkru 0x40AFFF) ∷ Some (wrpkru 0x40AFFF) ∷ None ∷ None ∷ []
-unfolding found_in itself across two checked harmless wrpkru
+unfolding pkru_of found_in itself across two checked harmless wrpkru
 found = refl
 
 -- ---- exec faults on 0x40B; the thread doesn't move

@@ -30,6 +30,7 @@ pub mod OccurrenceLemmas
 pub mod PageLemmas
 pub mod PlaceLemmas
 pub mod PlanLemmas
+pub mod WriteFaultLemmas
 pub mod WriteLemmas
 pub mod RecordLemmas
 mod ReplayRows
@@ -70,3 +71,5 @@ pub mod LaidLemmas
 pub mod MadeLemmas
 mod MadeRows
 pub mod MadeStart
+pub mod DomainLemmas
+pub mod PlainLemmas

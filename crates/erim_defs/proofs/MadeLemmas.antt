@@ -1,6 +1,7 @@
 -- The images that are made, for any number of threads and rounds: their parts in the file, what is
 -- read of them, and that they are accepted. Threads and rounds stand in three numbers of the code,
 -- which no fault looks at.
+use Rattle.erim_defs.specs.Inspection.Image.{has_domains}
 use Rattle.std.proofs.Common.{◌≡◌, ◌∙◌, ℕ, zero, suc, ◌+◌, ◌-◌, ◌<◌, List, [], ◌∷◌, ◌++◌, length}
 use Rattle.std.proofs.Common.{get_or, map, None, Bool, true, false, refl, ap, arith, replicate}
 use Rattle.std.proofs.Common.{lit≤, length-append, append_assoc}
@@ -337,7 +338,7 @@ notes_sound image h = rw (h.headed, one_sound image h) refl
 version_sound : (image : List ℕ) → HasNote image → version_fault image ≡ None
 version_sound image h = rw (notes_are image h, h.version) refl
 
-records_sound : record_fault 0 [] made_records ≡ None
+records_sound : record_fault false 0 [] made_records ≡ None
 unfolding record_fault made_records
 records_sound = refl
 
@@ -353,12 +354,16 @@ entries_sound : entry_fault 0 made_records [] made_records ≡ None
 unfolding entry_fault made_records
 entries_sound = refl
 
+plain_note : (image : List ℕ) → HasNote image → has_domains image ≡ false
+plain_note image h = rw (notes_are image h, h.version) refl
+
 trust_sound : (image : List ℕ) → HasNote image → trust_fault image ≡ None
 unfolding trust_fault
 trust_sound image h =
     rw (
       notes_sound image h,
       version_sound image h,
+      plain_note image h,
       records_are image h,
       records_sound,
       segments_are image h,
@@ -405,9 +410,17 @@ abbrev pub made_trust : TrustValue
 made_trust = record {
   texts = record { start = 0x402000; length = 4096 } ∷ [];
   entries = 0x40200C ∷ 0x40204C ∷ [];
+  text_keys = 1 ∷ [];
+  entry_keys = 1 ∷ 1 ∷ [];
+  domains = false ∷ true ∷ false ∷ false ∷ false ∷ [];
+  integrity = false ∷ false ∷ false ∷ false ∷ false ∷ [];
+  strict = false;
 }
 
 pub made_trust_is : (threads rounds : ℕ) → image_trust (made_image threads rounds) ≡ made_trust
 unfolding image_trust made_records
 made_trust_is threads rounds =
-    rw (records_are (made_image threads rounds) (has_note threads rounds)) refl
+    rw (
+      plain_note (made_image threads rounds) (has_note threads rounds),
+      records_are (made_image threads rounds) (has_note threads rounds),
+    ) refl

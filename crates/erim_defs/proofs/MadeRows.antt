@@ -1,4 +1,5 @@
 -- Made images, computed. The bytes are from the format, the lengths and places too.
+use Rattle.erim_defs.specs.Inspection.Trust.{pkru_of}
 use Rattle.std.proofs.Common.{◌≡◌, [], ◌∷◌, length, map, refl}
 use Rattle.erim_defs.specs.Inspection.Check.{check_of}
 use Rattle.erim_defs.specs.Inspection.Gate.{gate_in, gate_out}
@@ -43,7 +44,7 @@ trusted_text : made_text ≡
     ∷ 0xBF ∷ 0x01 ∷ 0x00 ∷ 0x00 ∷ 0x00 ∷ 0xBE ∷ 0x00 ∷ 0x40 ∷ 0x40 ∷ 0x00
     ∷ 0xBA ∷ 0x08 ∷ 0x00 ∷ 0x00 ∷ 0x00 ∷ 0xB8 ∷ 0x01 ∷ 0x00 ∷ 0x00 ∷ 0x00 ∷ 0x0F ∷ 0x05
     ∷ 0x31 ∷ 0xFF ∷ 0xB8 ∷ 0xE7 ∷ 0x00 ∷ 0x00 ∷ 0x00 ∷ 0x0F ∷ 0x05 ∷ []
-unfolding made_text gate_in gate_out check_of
+unfolding pkru_of made_text gate_in gate_out check_of
 trusted_text = refl
 
 -- the least seed, and others

@@ -1,5 +1,6 @@
 -- What a made image needs to start: its trusted text has nothing unsafe by itself, it needs 20
 -- frames, and it is made of bytes.
+use Rattle.erim_defs.specs.Inspection.Trust.{pkru_of}
 use Rattle.std.proofs.Common.{◌≡◌, ℕ, suc, ◌+◌, ◌-◌, ◌/◌, ◌<◌, ◌≤◌, [], Some, None, Bool, true}
 use Rattle.std.proofs.Common.{false, refl, ap, arith, leb, ltb, lit≤, inl, inr}
 use Rattle.std.proofs.Math.Path.{fun_ext}
@@ -52,7 +53,8 @@ first_past a high =
 
 -- of each WRPKRU an entry or the check follows, and nothing else begins with 0F 01 EF or 0F AE
 first_in_text : first_unsafe made_trust text_code ≡ None
-unfolding text_code text_byte made_text gate_in gate_out check_of first_from unsafe_at occurrence_at
+unfolding pkru_of text_code text_byte made_text gate_in gate_out check_of first_from unsafe_at
+    occurrence_at
     fits are_present
 first_in_text =
     first_unsafe_in made_trust text_code 0x402000 107 (lit≤ tt) first_before

@@ -14,7 +14,7 @@ use Rattle.erim_defs.specs.declared.rewriting.Why.TheVariants.{Displacement, Imm
 use Rattle.erim_defs.specs.declared.segment.Segment.{Segment}
 use Rattle.erim_defs.specs.declared.trust.Span.{Span}
 use Rattle.erim_defs.specs.Inspection.Code.{Code}
-use Rattle.erim_defs.specs.Inspection.Trust.{TrustValue}
+use Rattle.erim_defs.specs.Inspection.Trust.{TrustValue, plain_trust}
 use Rattle.erim_defs.specs.Inspection.Check.{check_of}
 use Rattle.erim_defs.specs.Inspection.Occurrence.{occurrence_at, are_present}
 use Rattle.erim_defs.specs.Inspection.Safe.{fits, unsafe_at}
@@ -70,7 +70,7 @@ functions bytes = record { start = 0x401000; bytes = bytes } ∷ []
 abbrev program : List ℕ → List Span → List ℕ → ℕ → Program
 program bytes texts entries entry = record {
   functions = functions bytes;
-  trust = record { texts = texts; entries = entries };
+  trust = plain_trust texts entries;
   entry = entry;
 }
 
@@ -266,7 +266,7 @@ with_last = over (record { at = 0x401FFD; bytes = Some 0x0F ∷ Some 0x01 ∷ So
     (page moved)
 
 abbrev none : TrustValue
-none = record { texts = []; entries = [] }
+none = plain_trust [] []
 
 abbrev unsafe_in : Result (List Copy) Run → ℕ → Option Found
 unsafe_in (Err r) a = None

@@ -153,15 +153,17 @@ pub record IsTextPage (image : List ℕ) (ss : List Segment) (q : ℕ) : Type 0 
   pub bits : ℕ
   pub asked : asked_in ss q ≡ Some bits
   pub exec : asks_exec bits ≡ true
+  pub sealed : asks_write bits ≡ false
   pub code : (a : ℕ) → a / 4096 ≡ q → code_of image ss a ≡ Some (byte_in image ss a)
 
 -- by the first segment with the page
 text_page_here : (image : List ℕ) (s : Segment) (ss : List Segment) (q : ℕ) → touches s q ≡ true
-    → is_executable s ≡ true → IsTextPage image (s ∷ ss) q
-text_page_here image s ss q on exec = record {
+    → is_executable s ≡ true → is_writable s ≡ false → IsTextPage image (s ∷ ss) q
+text_page_here image s ss q on exec sealed = record {
   bits = asked_of s;
   asked = rw on refl;
   exec = asks_exec_is s ∙ exec;
+  sealed = asks_write_is s ∙ sealed;
   code = λ a e. (let here : touches s (a / 4096) ≡ true = rw e on in rw (here, exec) refl);
 }
 
@@ -172,6 +174,7 @@ text_page_later image s ss q off w = record {
   bits = w.bits;
   asked = rw off w.asked;
   exec = w.exec;
+  sealed = w.sealed;
   code = λ a e. (let here : touches s (a / 4096) ≡ false = rw e off in
       elim (cases_Bool (is_executable s)) [
         | inl x ↦ rw (here, x) (w.code a e)
@@ -187,7 +190,8 @@ text_page_one : (image : List ℕ) (s : Segment) (ss : List Segment) (q : ℕ)
 text_page_one image s ss q once rest text =
     elim (or_cases (holds_text s && touches s q) (is_page_of holds_text ss q) text) [
       | inl here ↦ (let p = and_parts (holds_text s) (touches s q) here in
-          text_page_here image s ss q p.1 (and_parts _ _ p.0).0)
+          text_page_here image s ss q p.1 (and_parts _ _ p.0).0
+          (not_true (is_writable s) (and_parts _ _ p.0).1))
       | inr later ↦ text_page_later image s ss q
           (false_from_ne_true _ (λ on. both_ways (has_page ss q) (once on)
           (some_page holds_text ss q later))) (rest later)

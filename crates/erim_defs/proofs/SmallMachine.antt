@@ -1,5 +1,7 @@
 -- A small image with a trusted part, and small states of the machine, on which its definitions are
 -- computed.
+use Rattle.erim_defs.specs.Machine.Domains.{is_set_but, opened}
+use Rattle.erim_defs.specs.Inspection.Trust.{pkru_of, text_key}
 use Rattle.std.proofs.Common.{ℕ, ◌/◌, ◌%◌, ◌==◌, List, [], ◌∷◌, ◌++◌, Option, Some, None, false}
 use Rattle.std.proofs.Common.{true}
 use Rattle.std.specs.Prelude.{if◌then◌else◌, nat_lt}
@@ -189,7 +191,8 @@ state_of t bytes = record {
 -- ---- a step and a replay, where all that they are defined by unfolds
 
 unfoldable pub step_by : ℕ → State → Option State
-unfolding step fetch ones small_image row_at modrm_follows sooner_stop operand_len stop_of
+unfolding step is_set_but opened text_key pkru_of is_pinned fetch ones small_image row_at
+    modrm_follows sooner_stop operand_len stop_of
     least_modrm
     modrm_stop without_modrm_at behind_modrm_at modrm_at tail_at least_body least_second body_at
     rex_at f3_at
@@ -211,7 +214,7 @@ unfolding step fetch ones small_image row_at modrm_follows sooner_stop operand_l
 step_by t s = step t s
 
 unfoldable pub loaded_by : Setup → State
-unfolding first_state first_rights first_thread small_image number_at headers_from headers
+unfolding pkru_of first_state first_rights first_thread small_image number_at headers_from headers
     loadable_segments
     notes_between notes records_from records_in image_trust image_data image_heaps
 loaded_by setup = first_state setup
@@ -222,7 +225,8 @@ replay_by setup entries = replay setup entries
 
 -- what a system call gives, likewise
 unfoldable pub call_by : State → Thread → CallResult
-unfolding small_image number_at headers_from headers loadable_segments notes_between notes
+unfolding is_set_but opened text_key small_image number_at headers_from headers loadable_segments
+    notes_between notes
     records_from records_in image_trust opens stop bytes_of_range any_below least_below is_pinned
     write_result mmap_result munmap_result mprotect_result pkey_mprotect_result pkey_alloc_result
     pkey_free_result with_key_rights count_below clone_result gettid_result sched_yield_result

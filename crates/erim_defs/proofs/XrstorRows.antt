@@ -14,7 +14,7 @@ use Rattle.erim_defs.specs.Inspection.Occurrence.{occurrence_at, are_present}
 use Rattle.erim_defs.specs.Inspection.Check.{Compare, Branch, Number, Leave, check_of, check_bytes}
 use Rattle.erim_defs.specs.Inspection.Check.{check_insn, position_start}
 use Rattle.erim_defs.specs.Inspection.Safe.{fits, unsafe_at}
-use Rattle.erim_defs.specs.Inspection.Trust.{TrustValue}
+use Rattle.erim_defs.specs.Inspection.Trust.{TrustValue, plain_trust}
 use Rattle.erim_defs.specs.Inspection.Unsafe.{list_below}
 use Rattle.erim_defs.specs.Encoding.Decoding.{decode}
 use Rattle.erim_defs.specs.Encoding.Operand.{has_sib, disp_size}
@@ -84,7 +84,7 @@ cut_short = refl
 -- ---- its check
 
 no_trust : TrustValue
-no_trust = record { texts = []; entries = 0x401003 ∷ [] }
+no_trust = plain_trust [] (0x401003 ∷ [])
 
 check :
     check_of no_trust Xrstor 0x401003
@@ -112,7 +112,7 @@ instructions = refl
 -- what is unsafe below address 64; the entry 3 is behind an XRSTOR of 3 bytes
 unsafe_in : List ℕ → List Found
 unsafe_in bytes =
-    list_below 64 (unsafe_at (record { texts = []; entries = 3 ∷ [] }) (laid_at 0 bytes))
+    list_below 64 (unsafe_at (plain_trust [] (3 ∷ [])) (laid_at 0 bytes))
 
 -- xrstor [0x7FFEE000]
 restoring : List ℕ

@@ -1,6 +1,7 @@
 -- What the machine and isolation rest on: pages, accesses, instructions, steps, the start, replays.
 pub mod Pages
 pub mod Access
+pub mod Domains
 pub mod Count
 pub mod Alu
 pub mod Plan

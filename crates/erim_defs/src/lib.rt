@@ -5,8 +5,9 @@
 //! `Machine` (pages, steps, the start, replays, isolation), `Output` (reports, journals, made
 //! images) and `Rewriting` (runs, their copies, the new file). `proofs/` computes them on rows with
 //! values from outside, and holds the lemmas that two crates or more need. Every other crate uses
-//! this one; of its functions `one_journal` is a law (the bytes of a journal determine it), those of
-//! `field` read numbers at a place, and the others are methods of the shared types.
+//! this one; of its functions `one_journal` is a law (the bytes of a journal determine it), those
+//! of `field` read numbers at a place, those of `pkru` what a PKRU permits, `key_beside` finds a
+//! key by its range, and the others are methods of the shared types.
 #![tactic(auto)]
 
 pub mod elf;
@@ -22,6 +23,7 @@ mod machine;
 mod memory;
 pub mod note;
 pub mod page;
+pub mod pkru;
 pub mod register;
 mod rewriting;
 mod segment;
@@ -37,4 +39,4 @@ pub use machine::{Access, Cause, End, Entry, Escape, Flags, Keys, Outcome, Right
 pub use memory::NoMemory;
 pub use rewriting::Why;
 pub use segment::Segment;
-pub use trust::{Span, Trust};
+pub use trust::{Span, Trust, key_beside};

@@ -1,11 +1,14 @@
 //! What the machine is made of: rights of pages, threads, faults, ends, and the entries of a
 //! journal.
 
-ghost use Rattle.std.specs.Prelude.{◌≡◌};
+ghost use Rattle.std.specs.Prelude.{◌≡◌, ◌<◌};
 ghost use Rattle.erim_defs.specs.Machine.Pages.{asks_exec, asks_write, published_rights};
+ghost use Rattle.erim_defs.specs.Machine.Pages.{taken_back};
+ghost use Rattle.erim_defs.specs.Machine.Step.{is_write_fault};
 ghost use Rattle.erim_defs.specs.Machine.Start.{unpublished_rights};
 
 use crate::found::Found;
+use crate::pkru::opens_write;
 
 /// The rights of a mapped page. `asked` is below 8 and `key` below 16.
 #[derive(Clone, Copy, PartialEq, Eq)]
@@ -50,6 +53,25 @@ impl Rights {
         }
     }
 
+    /// May a thread with this PKRU write the page, but for its publication?
+    pub fn is_write_fault(&self, pkru: u32) -> bool
+        requires { self.now.key < 16 }
+        ensures { result ≡ is_write_fault self.now pkru }
+    {
+        self.exec && self.asks_write() && opens_write(pkru, self.key)
+    }
+
+    /// The rights of the page once a write took its publication back.
+    pub fn taken_back(&self) -> Rights
+        ensures { result ≡ taken_back self.now }
+    {
+        Rights {
+            exec: false,
+            write: true,
+            ..*self
+        }
+    }
+
     /// The rights of the page once it is published: it can be fetched, and isn't writable.
     pub fn published(&self) -> Rights
         ensures { result ≡ published_rights self.now }
@@ -66,11 +88,6 @@ impl Rights {
 #[derive(Clone, Copy, PartialEq, Eq)]
 pub struct Keys {
     pub taken: u16,
-}
-
-impl Keys {
-    /// The keys at the start: 0, and the trusted key 1.
-    pub const FIRST: Keys = Keys { taken: 3 };
 }
 
 /// The flags that instructions compute (SDM volume 1, "EFLAGS register").
@@ -98,7 +115,7 @@ pub struct Thread {
     pub flags: Flags,
     /// What its protection keys permit (SDM volume 3A, "Protection keys").
     pub pkru: u32,
-    /// The sequence by which it opened the trusted key and that it hasn't left behind yet.
+    /// The sequence by which it came to be open where it isn't at home, and whose check holds it.
     pub origin: Option<Found>,
     /// Has it not ended yet?
     pub live: bool,

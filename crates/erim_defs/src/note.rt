@@ -4,6 +4,9 @@
 /// The version that both notes begin with, of 4 bytes; a count of 4 bytes follows.
 pub const NOTE_VERSION: u32 = 1;
 
+/// The version of a trust note that has several domains.
+pub const DOMAINS_VERSION: u32 = 2;
+
 /// The place of the count in the desc.
 pub const NOTE_COUNT: usize = 4;
 
@@ -50,3 +53,9 @@ pub const TRUSTED_ENTRY: u32 = 3;
 
 /// A trusted heap.
 pub const TRUSTED_HEAP: u32 = 4;
+
+/// Its key is an integrity domain.
+pub const INTEGRITY_DOMAIN: u32 = 5;
+
+/// The highest key that may be a domain.
+pub const MOST_DOMAINS: u32 = 4;

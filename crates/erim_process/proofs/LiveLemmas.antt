@@ -31,6 +31,7 @@ use Rattle.erim_defs.specs.Machine.Step.{after_exec_fault, ready_thread, after_s
 use Rattle.erim_defs.specs.Machine.Step.{fetch, Runner, with_end, with_last_end}
 use Rattle.erim_defs.specs.declared.machine.End.TheVariants.{Exit}
 use Rattle.erim_defs.proofs.PlanLemmas.{done_goes}
+use Rattle.erim_defs.proofs.WriteFaultLemmas.{stop_threads}
 
 -- ---- threads in a list
 
@@ -167,10 +168,9 @@ did_alive (Done new w) insn len skip t old s h here live =
     (sequence_of (record { insn = insn; len = len; skip = skip }) old.rip) (is_free insn old)
     (record s { bytes = bytes_after_write w s.bytes }) here
     (done_live insn len old new w (whole s.rights) s.bytes old.pkru old.rip h ∙ live)
-did_alive (Stopped (Fault cause a)) insn len skip t old s h here live =
-    λ none. any_live_at s.threads t old here live
-did_alive (Stopped (Missing q)) insn len skip t old s h here live =
-    λ none. any_live_at s.threads t old here live
+did_alive (Stopped a) insn len skip t old s h here live =
+    λ none. ap any_live (stop_threads a (record { number = t; thread = old }) s)
+    ∙ any_live_at s.threads t old here live
 did_alive Called insn len skip t old s h here live =
     replied_alive (call_result s t (behind_syscall len old)) t old (behind_syscall len old) s here
     live

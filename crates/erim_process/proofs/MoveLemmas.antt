@@ -1,5 +1,6 @@
 -- A thread that is settled after a step: what the definitions make of the state.
-use Rattle.std.proofs.Common.{◌≡◌, Bool, refl, ap, ◌∙◌}
+use Rattle.std.proofs.Common.{◌≡◌, ℕ, Bool, refl, ap, ◌∙◌}
+use Rattle.erim_defs.specs.declared.machine.Cause.{Cause}
 use Rattle.erim_defs.specs.declared.machine.Thread.{Thread}
 use Rattle.erim_defs.specs.declared.machine.Access.TheVariants.{Fault, Missing}
 use Rattle.erim_defs.specs.Inspection.Trust.{TrustValue}
@@ -51,6 +52,14 @@ call_is (Done new w) trust i t h = absurd cc
 call_is (Stopped (Fault cause a)) trust i t h = absurd cc
 call_is (Stopped (Missing q)) trust i t h = absurd cc
 call_is Called trust i t h = refl
+
+pub stop_is : (e : Effect) (trust : TrustValue) (i : CodedInsn) (t : Thread) (cause : Cause)
+    (a : ℕ) → exec.Fault cause a ≡ exec_of e trust i.insn t → e ≡ Stopped (Fault cause a)
+stop_is (Done new w) trust i t cause a h = absurd cc
+stop_is (Stopped (Fault c b)) trust i t cause a h = let s : c ≡ cause = cc in
+    let p : b ≡ a = cc in rw (s, p) refl
+stop_is (Stopped (Missing q)) trust i t cause a h = absurd cc
+stop_is Called trust i t cause a h = absurd cc
 
 -- ---- of a machine, whose pages are a whole memory
 

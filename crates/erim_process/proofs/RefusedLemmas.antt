@@ -4,7 +4,9 @@ use Rattle.std.proofs.Common.{None, subst, inl, inr}
 use Rattle.std.proofs.lemmas.Bool.{cases_Bool, and_parts}
 use Rattle.erim_defs.specs.declared.machine.Rights.{Rights}
 use Rattle.erim_defs.specs.declared.machine.Thread.{Thread}
+use Rattle.erim_defs.specs.declared.machine.Access.{Access}
 use Rattle.erim_defs.specs.declared.machine.Access.TheVariants.{Fault, Missing}
+use Rattle.erim_defs.proofs.WriteFaultLemmas.{stop_either, write_either}
 use Rattle.erim_defs.specs.declared.found.Found.{Found}
 use Rattle.erim_defs.specs.declared.insn.Insn.{Insn}
 use Rattle.erim_defs.specs.declared.insn.FetchOutcome.{FetchOutcome}
@@ -19,7 +21,8 @@ use Rattle.erim_defs.specs.Machine.State.{Setup, State, any_live, code}
 use Rattle.erim_defs.specs.Machine.CallResult.{Refusal, Answer, ThreadEnd, Quit}
 use Rattle.erim_defs.specs.Machine.CallResult.{CallResult}
 use Rattle.erim_defs.specs.Machine.Calls.{call_result}
-use Rattle.erim_defs.specs.Machine.Step.{step, after_move, after_instruction, after_call}
+use Rattle.erim_defs.specs.Machine.Step.{step, after_fault, after_move, after_instruction}
+use Rattle.erim_defs.specs.Machine.Step.{after_call}
 use Rattle.erim_defs.specs.Machine.Step.{after_fetch, with_new_thread, caller_after, with_change}
 use Rattle.erim_defs.specs.Machine.Step.{behind_syscall, after_verdict, after_exec_fault}
 use Rattle.erim_defs.specs.Machine.Step.{ready_thread, after_step_of, fetch, Runner, with_last_end}
@@ -83,8 +86,14 @@ low_did : (d : Effect) (insn : Insn) (len skip t : ℕ) (old : Thread) (s : Stat
     → IsLow (after_instruction d (record { insn = insn; len = len; skip = skip })
     (record { number = t; thread = old }) s)
 low_did (Done new w) insn len skip t old s h = h
-low_did (Stopped (Fault cause a)) insn len skip t old s h = tt
-low_did (Stopped (Missing q)) insn len skip t old s h = h
+low_did (Stopped a) insn len skip t old s h =
+    stop_either IsLow a (record { number = t; thread = old }) s (ended a)
+    (λ x e. write_either IsLow (s.rights (x / 4096)) x (record { number = t; thread = old }) s tt h
+    (λ r m w free. h))
+  where
+    ended : (a : Access) → IsLow (after_fault a (record { number = t; thread = old }) s)
+    ended (Fault cause x) = tt
+    ended (Missing q) = h
 low_did Called insn len skip t old s h =
     low_replied (call_result s t (behind_syscall len old)) t old (behind_syscall len old) s h
 

@@ -29,17 +29,16 @@ asked_none (t ∷ ts) q h =
     let head : touches t q ≡ false = h zero t (omega arith) in
     rw head (asked_none ts q (λ k d l. h (suc k) d (omega arith)))
 
-rights_none : (ss : List Segment) (trust : TrustValue) (trusted_data trusted_heaps : List Span)
-    (q : ℕ) → asked_in ss q ≡ None → segment_rights ss trust trusted_data trusted_heaps q ≡ None
-rights_none ss trust trusted_data trusted_heaps q h = rw h refl
+rights_none : (ss : List Segment) (image : List ℕ)
+    (q : ℕ) → asked_in ss q ≡ None → segment_rights ss image q ≡ None
+rights_none ss image q h = rw h refl
 
 -- the pages of a segment that is apart from the others
-pub unmapped_apart : (s : Segment) (ss : List Segment) (trust : TrustValue)
-    (trusted_data trusted_heaps : List Span) (q : ℕ)
+pub unmapped_apart : (s : Segment) (ss : List Segment) (image : List ℕ) (q : ℕ)
     → All (λ t. shares_page s t ≡ false) ss → touches s q ≡ true
-    → segment_rights ss trust trusted_data trusted_heaps q ≡ None
-unmapped_apart s ss trust trusted_data trusted_heaps q apart here =
-    rights_none ss trust trusted_data trusted_heaps q
+    → segment_rights ss image q ≡ None
+unmapped_apart s ss image q apart here =
+    rights_none ss image q
     (asked_none ss q (λ k d l. apart_page (get_or ss k d) s q
     (apart_swap s (get_or ss k d) (apart k d l)) here))
 
@@ -49,22 +48,20 @@ stack_page s q user stack =
     false_from_ne_true _ (λ here. both_ways (is_stack q) (user_page s q user here).1 stack)
 
 -- the stack's pages
-pub unmapped_stack : (ss : List Segment) (trust : TrustValue)
-    (trusted_data trusted_heaps : List Span) (q : ℕ)
+pub unmapped_stack : (ss : List Segment) (image : List ℕ) (q : ℕ)
     → All (λ s. is_in_user s ≡ true) ss → is_stack q ≡ true
-    → segment_rights ss trust trusted_data trusted_heaps q ≡ None
-unmapped_stack ss trust trusted_data trusted_heaps q user stack =
-    rights_none ss trust trusted_data trusted_heaps q
+    → segment_rights ss image q ≡ None
+unmapped_stack ss image q user stack =
+    rights_none ss image q
     (asked_none ss q (λ k d l. stack_page (get_or ss k d) q (user k d l) stack))
 
 -- one more segment
-pub rights_more : (s : Segment) (ss : List Segment) (trust : TrustValue)
-    (trusted_data trusted_heaps : List Span)
-    → rights_over (touches s) (page_rights trust trusted_data trusted_heaps (asked_of s))
-    (segment_rights ss trust trusted_data trusted_heaps)
-    ≡ segment_rights (s ∷ ss) trust trusted_data trusted_heaps
-rights_more s ss trust trusted_data trusted_heaps = fun_ext (λ q. elim (cases_Bool (touches s q)) [
-  | inl t ↦ rw t (elim (cases_Bool (in_text_of trust (4096 * q))) [
+pub rights_more : (s : Segment) (ss : List Segment) (image : List ℕ)
+    → rights_over (touches s) (page_rights image (asked_of s))
+    (segment_rights ss image)
+    ≡ segment_rights (s ∷ ss) image
+rights_more s ss image = fun_ext (λ q. elim (cases_Bool (touches s q)) [
+  | inl t ↦ rw t (elim (cases_Bool (in_text_of (image_trust image) (4096 * q))) [
     | inl u ↦ rw u refl
     | inr v ↦
         rw v refl
@@ -77,9 +74,9 @@ pub bytes_more : (bytes : List ℕ) (s : Segment) (ss : List Segment)
 bytes_more bytes s ss = fun_ext (λ a. refl)
 
 -- no segment so far
-pub rights_empty : (trust : TrustValue) (trusted_data trusted_heaps : List Span)
-    → (λ _. None) ≡ segment_rights [] trust trusted_data trusted_heaps
-rights_empty trust trusted_data trusted_heaps = fun_ext (λ q. refl)
+pub rights_empty : (image : List ℕ)
+    → (λ _. None) ≡ segment_rights [] image
+rights_empty image = fun_ext (λ q. refl)
 
 pub bytes_empty : (bytes : List ℕ) → (λ _. 0) ≡ byte_in bytes []
 bytes_empty bytes = fun_ext (λ a. refl)
@@ -92,15 +89,15 @@ drop_next ss n d some within =
     let same : suc (n - 1) ≡ n = omega arith in
     drop-cons ss (n - 1) d (omega arith) ∙ ap (λ (k : ℕ). get_or ss (n - 1) d ∷ drop k ss) same
 
-pub rights_from_next : (ss : List Segment) (n : ℕ) (d : Segment) (trust : TrustValue)
-    (trusted_data trusted_heaps : List Span) → 0 < n → n ≤ length ss
+pub rights_from_next : (ss : List Segment) (n : ℕ) (d : Segment) (image : List ℕ) → 0 < n
+    → n ≤ length ss
     → rights_over (touches (get_or ss (n - 1) d))
-    (page_rights trust trusted_data trusted_heaps (asked_of (get_or ss (n - 1) d)))
-    (segment_rights (drop n ss) trust trusted_data trusted_heaps)
-    ≡ segment_rights (drop (n - 1) ss) trust trusted_data trusted_heaps
-rights_from_next ss n d trust trusted_data trusted_heaps some within =
-    rights_more (get_or ss (n - 1) d) (drop n ss) trust trusted_data trusted_heaps
-    ∙ ap (λ (ts : List Segment). segment_rights ts trust trusted_data trusted_heaps)
+    (page_rights image (asked_of (get_or ss (n - 1) d)))
+    (segment_rights (drop n ss) image)
+    ≡ segment_rights (drop (n - 1) ss) image
+rights_from_next ss n d image some within =
+    rights_more (get_or ss (n - 1) d) (drop n ss) image
+    ∙ ap (λ (ts : List Segment). segment_rights ts image)
     (sym (drop_next ss n d some within))
 
 pub bytes_from_next : (bytes : List ℕ) (ss : List Segment) (n : ℕ) (d : Segment) → 0 < n
@@ -148,9 +145,7 @@ apart_from ss n d some within apart k e l =
 -- ---- an image's
 
 -- the rights at the start are those by its segments, trusted text, data and heaps
-pub first_rights_is : (setup : Setup)
-    → first_rights setup ≡ rights_from (segments setup.image) (image_trust setup.image)
-    (image_data setup.image) (image_heaps setup.image)
+pub first_rights_is : (setup : Setup) → first_rights setup ≡ rights_from setup.image
 unfolding first_rights rights_from
 first_rights_is setup = refl
 

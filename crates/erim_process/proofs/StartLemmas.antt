@@ -1,10 +1,13 @@
 -- The state at the start, field by field.
-use Rattle.std.proofs.lemmas.Nat.{pow_pos}
-use Rattle.std.proofs.lemmas.Bool.{le-ltb}
-use Rattle.std.proofs.Math.Nat.{pow-suc, div-eq_of_lt}
+use Rattle.std.proofs.lemmas.Nat.{pow_pos, pow-add}
+use Rattle.std.proofs.lemmas.Bool.{le-ltb, false_from_ne_true}
+use Rattle.std.proofs.Math.Nat.{div-eq_of_lt}
 use Rattle.std.proofs.Math.Path.{fun_ext}
 use Rattle.erim_defs.specs.Bits.{has_bit}
-use Rattle.std.proofs.Common.{◌≡◌, ◌≤◌, ◌<◌, ◌*◌, ◌^◌, ◌/◌, zero, suc, arith, ℕ, ltb, ltb-false}
+use Rattle.std.proofs.Common.{◌≡◌, ◌≤◌, ◌<◌, ◌+◌, ◌*◌, ◌^◌, ◌/◌, ◌%◌, ◌||◌, zero, suc, arith, ℕ}
+use Rattle.std.proofs.Common.{cond, eqb, ltb, ltb-false, ne_eqb}
+use Rattle.erim_defs.specs.Inspection.Trust.{is_domain}
+use Rattle.erim_defs.proofs.DomainLemmas.{domain_range}
 use Rattle.std.proofs.Common.{Bool, true, false, List, [], ◌∷◌, Option, Some, None}
 use Rattle.std.proofs.Common.{ap, sym, subst, ◌∙◌, refl}
 use Rattle.erim_defs.specs.declared.found.Found.{Found}
@@ -26,18 +29,50 @@ use Rattle.erim_defs.proofs.UnsafeLemmas.{first_is, none_first_below}
 use Rattle.erim_defs.specs.Inspection.Safe.{unsafe_at}
 use Rattle.erim_defs.specs.Machine.Isolation.{IsSafeCode, IsStartable}
 
--- keys 0 and 1 are bits 0 and 1 of 3
-first_keys : (k : ℕ) → has_bit 3 k ≡ ltb k 2
-first_keys zero = refl
-first_keys (suc zero) = refl
-first_keys (suc (suc k)) =
-    let low : 0 < 2 ^ k = pow_pos k in
-    let one : 2 ^ suc k ≡ 2 ^ k * 2 = pow-suc 2 k in
-    let two : 2 ^ suc (suc k) ≡ 2 ^ suc k * 2 = pow-suc 2 (suc k) in
-    let small : 3 < 2 ^ suc (suc k) = omega (arith, low, one, two) in
-    let none : 3 / 2 ^ suc (suc k) ≡ 0 = div-eq_of_lt small in
-    let past : ltb (suc (suc k)) 2 ≡ false = le-ltb (suc (suc k)) 2 (omega arith) in
-    rw (none, past) refl
+-- ---- the keys that are taken
+
+bit_none : (n k : ℕ) → n < 2 ^ k → has_bit n k ≡ false
+bit_none n k few = let none : n / 2 ^ k ≡ 0 = div-eq_of_lt few in rw none refl
+
+bit_is : (n k a : ℕ) (b : Bool) → (n / 2 ^ k) % 2 ≡ a → a ≡ cond b 1 0 → has_bit n k ≡ b
+bit_is n k a true e f = rw (e, f) refl
+bit_is n k a false e f = rw (e, f) refl
+
+few_bit : (b : Bool) (a : ℕ) → a ≡ cond b 1 0 → a ≤ 1
+few_bit true a e = omega (arith, e)
+few_bit false a e = omega (arith, e)
+
+no_domain : (image : List ℕ) (k : ℕ) → 5 ≤ k → is_domain (image_trust image) k ≡ false
+no_domain image k high = false_from_ne_true _ (λ is.
+    let r = domain_range image k is in absurd (omega (arith, high, r)))
+
+-- bit 0, and a bit for each domain
+pub taken_keys : (image : List ℕ) (a b c d : ℕ)
+    → a ≡ cond (is_domain (image_trust image) 1) 1 0
+    → b ≡ cond (is_domain (image_trust image) 2) 1 0
+    → c ≡ cond (is_domain (image_trust image) 3) 1 0
+    → d ≡ cond (is_domain (image_trust image) 4) 1 0 → (k : ℕ)
+    → has_bit (1 + 2 * a + 4 * b + 8 * c + 16 * d) k
+    ≡ (eqb k 0 || is_domain (image_trust image) k)
+taken_keys image a b c d e f g h k =
+    by k (few_bit _ a e) (few_bit _ b f) (few_bit _ c g) (few_bit _ d h)
+  where
+    by : (k : ℕ) → a ≤ 1 → b ≤ 1 → c ≤ 1 → d ≤ 1
+        → has_bit (1 + 2 * a + 4 * b + 8 * c + 16 * d) k
+        ≡ (eqb k 0 || is_domain (image_trust image) k)
+    by zero p q r s = bit_is _ 0 1 true (omega (arith, p, q, r, s)) refl
+    by (suc zero) p q r s = bit_is _ 1 a _ (omega (arith, p, q, r, s)) e
+    by (suc (suc zero)) p q r s = bit_is _ 2 b _ (omega (arith, p, q, r, s)) f
+    by (suc (suc (suc zero))) p q r s = bit_is _ 3 c _ (omega (arith, p, q, r, s)) g
+    by (suc (suc (suc (suc zero)))) p q r s = bit_is _ 4 d _ (omega (arith, p, q, r, s)) h
+    by (suc (suc (suc (suc (suc k))))) p q r s =
+        let low : 0 < 2 ^ k = pow_pos k in
+        let more : 2 ^ (k + 5) ≡ 2 ^ k * 2 ^ 5 = pow-add 2 k 5 in
+        let same : suc (suc (suc (suc (suc k)))) ≡ k + 5 = omega arith in
+        let few : 1 + 2 * a + 4 * b + 8 * c + 16 * d < 2 ^ (k + 5) =
+        omega (arith, p, q, r, s, low, more) in
+        rw (same, no_domain image (k + 5) (omega arith), ne_eqb (k + 5) 0 (omega arith))
+        (bit_none _ (k + 5) few)
 
 -- the first unsafe sequence of a code that is laid for an image is that of the image
 pub image_first : (image : List ℕ) (c : Code) (r : Option Found) → c ≡ image_code image
@@ -55,13 +90,14 @@ trusted_first image c text r laid part first =
     first_is (image_trust image) (text_of (image_trust image) (image_code image)) r
     (rw (part, laid) at first)
 
-abbrev start_state : Setup → RightsMap → ByteMap → List Thread → List Span → List ℕ → State
-start_state setup rights bytes threads blocks output = record {
+abbrev start_state : Setup → RightsMap → ByteMap → List Thread → List Span → List ℕ → (ℕ → Bool)
+    → State
+start_state setup rights bytes threads blocks output keys = record {
   setup = setup;
   rights = rights;
   bytes = bytes;
   threads = threads;
-  keys = λ k. has_bit 3 k;
+  keys = keys;
   blocks = blocks;
   output = output;
   end = None;
@@ -70,23 +106,14 @@ start_state setup rights bytes threads blocks output = record {
 }
 
 pub loaded_is : (setup : Setup) (rights : RightsMap) (bytes : ByteMap) (threads : List Thread)
-    (blocks : List Span) (output : List ℕ)
+    (blocks : List Span) (output : List ℕ) (keys : ℕ → Bool)
     → rights ≡ first_rights setup → bytes ≡ image_byte setup.image
     → threads ≡ first_thread setup ∷ [] → blocks ≡ [] → output ≡ []
-    → start_state setup rights bytes threads blocks output ≡ first_state setup
+    → ((k : ℕ) → keys k ≡ (eqb k 0 || is_domain (image_trust setup.image) k))
+    → start_state setup rights bytes threads blocks output keys ≡ first_state setup
 unfolding first_state
-loaded_is setup rights bytes threads blocks output r b t h o =
-    ap (λ (x : RightsMap). start_state setup x bytes threads blocks output) r
-    ∙ ap (λ (x : ByteMap). start_state setup (first_rights setup) x threads blocks output) b
-    ∙ ap (λ (x : List Thread). start_state setup (first_rights setup) (image_byte setup.image) x
-    blocks output) t
-    ∙ ap (λ (x : List Span). start_state setup (first_rights setup) (image_byte setup.image)
-    (first_thread setup ∷ []) x output) h
-    ∙ ap (λ (x : List ℕ). start_state setup (first_rights setup) (image_byte setup.image)
-    (first_thread setup ∷ []) [] x) o
-    ∙ ap (λ (x : ℕ → Bool). let s : State = start_state setup (first_rights setup)
-    (image_byte setup.image) (first_thread setup ∷ []) [] [] in
-    let t : State = record s { keys = x } in t) (fun_ext first_keys)
+loaded_is setup rights bytes threads blocks output keys r b t h o k =
+    rw (r, b, t, h, o, fun_ext k) refl
 
 none_first : {X : Type 0} (x y : Option X) → or_else x y ≡ None → x ≡ None
 none_first None y h = refl

@@ -1,36 +1,31 @@
 -- What loading the pages of segments does to rights and bytes.
 use Rattle.std.specs.Prelude.{◌≡◌, ℕ, ◌*◌, ◌/◌, ◌&&◌, ◌++◌, nat_lt, nat_le}
 use Rattle.std.specs.Prelude.{Bool, true, Option, Some, None, List, if◌then◌else◌}
-use Rattle.std.specs.List.{list_any}
 use Rattle.erim_defs.specs.declared.machine.Rights.{Rights}
 use Rattle.erim_defs.specs.declared.segment.Segment.{Segment}
-use Rattle.erim_defs.specs.declared.trust.Span.{Span}
 use Rattle.erim_defs.specs.Machine.Pages.{RightsMap, ByteMap, published_rights}
-use Rattle.erim_defs.specs.Inspection.Trust.{TrustValue, spans, in_text_of}
-use Rattle.erim_defs.specs.Machine.Start.{rights_at_start, unpublished_rights, is_stack, asked_in}
+use Rattle.erim_defs.specs.Inspection.Image.{image_trust, segments}
+use Rattle.erim_defs.specs.Inspection.Trust.{in_text_of}
+use Rattle.erim_defs.specs.Machine.Start.{asked_in, is_stack, page_key, rights_at_start}
+use Rattle.erim_defs.specs.Machine.Start.{unpublished_rights}
 
--- trusted data and trusted heaps have key 1
-abbrev pub key_at : List Span → List Span → ℕ → ℕ
-key_at trusted_data trusted_heaps q = if list_any (spans (4096 * q)) (trusted_data ++ trusted_heaps)
-    then 1 else 0
+-- the rights of a page of an image of which these bits are asked
+abbrev pub page_rights : List ℕ → ℕ → ℕ → Rights
+page_rights image asked q =
+    if in_text_of (image_trust image) (4096 * q)
+    then published_rights (unpublished_rights asked (page_key image q))
+    else unpublished_rights asked (page_key image q)
 
--- the rights of a page of which these bits are asked
-abbrev pub page_rights : TrustValue → List Span → List Span → ℕ → ℕ → Rights
-page_rights trust trusted_data trusted_heaps asked q =
-    if in_text_of trust (4096 * q)
-    then published_rights (unpublished_rights asked (key_at trusted_data trusted_heaps q))
-    else unpublished_rights asked (key_at trusted_data trusted_heaps q)
-
--- the rights of the pages of segments
-abbrev pub segment_rights : List Segment → TrustValue → List Span → List Span → RightsMap
-segment_rights ss trust trusted_data trusted_heaps =
-    λ q. rights_at_start (in_text_of trust (4096 * q)) (key_at trusted_data trusted_heaps q)
+-- the rights of the pages of segments of an image
+abbrev pub segment_rights : List Segment → List ℕ → RightsMap
+segment_rights ss image =
+    λ q. rights_at_start (in_text_of (image_trust image) (4096 * q)) (page_key image q)
     (asked_in ss q)
 
 -- the rights at the start, those of the stack's pages too
-unfoldable pub rights_from : List Segment → TrustValue → List Span → List Span → RightsMap
-rights_from ss trust trusted_data trusted_heaps = λ q. if is_stack q
-    then Some (unpublished_rights 3 0) else segment_rights ss trust trusted_data trusted_heaps q
+unfoldable pub rights_from : List ℕ → RightsMap
+rights_from image = λ q. if is_stack q
+    then Some (unpublished_rights 3 0) else segment_rights (segments image) image q
 
 -- the pages from one on, before another
 abbrev pub is_between : ℕ → ℕ → ℕ → Bool

@@ -12,7 +12,6 @@ use erim_defs::page::TRUSTED_KEY;
 use erim_defs::register::RDI;
 use erim_defs::{Thread, Trust};
 use page_store::{Memory, Pages};
-use thread_state::opens;
 use x86_step::register;
 
 impl<P: Pages> Machine<P> {
@@ -25,7 +24,7 @@ impl<P: Pages> Machine<P> {
         ensures kept { KeepsLimits P.Memory self.old self.new }
     {
         let len = register(new, RDI);
-        let outcome = self.heap.talloc(opens(new.pkru, TRUSTED_KEY), len);
+        let outcome = self.heap.talloc(trust.opens(new.pkru, TRUSTED_KEY), len);
         self.answer(trust, t, old, new, returned(outcome));
     }
 
@@ -38,7 +37,7 @@ impl<P: Pages> Machine<P> {
         ensures kept { KeepsLimits P.Memory self.old self.new }
     {
         let addr = register(new, RDI);
-        let outcome = self.heap.tfree(opens(new.pkru, TRUSTED_KEY), addr);
+        let outcome = self.heap.tfree(trust.opens(new.pkru, TRUSTED_KEY), addr);
         self.answer(trust, t, old, new, returned(outcome));
     }
 }

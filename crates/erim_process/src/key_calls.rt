@@ -37,7 +37,7 @@ impl<P: Pages> Machine<P> {
             (record { number = t; thread = old.now }) new.now s) }
         ensures kept { KeepsLimits P.Memory self.old self.new }
     {
-        let outcome = pkey_free(&mut self.keys, register(new, RDI));
+        let outcome = pkey_free(&mut self.keys, trust, register(new, RDI));
         self.answer(trust, t, old, new, returned(outcome));
     }
 }

@@ -1,10 +1,12 @@
 //! How a process starts.
 
-ghost use Rattle.std.specs.Prelude.{◌≡◌, ◌≤◌, ◌⊎◌, ◌&&◌, [], Some, None, IfOk, MatchResult, IsTrue};
-ghost use Rattle.std.specs.Prelude.{true};
+ghost use Rattle.std.specs.Prelude.{◌≡◌, ◌≤◌, ◌⊎◌, ◌&&◌, ◌||◌, ◌==◌, ℕ, List, [], Some, None, IfOk};
+ghost use Rattle.std.specs.Prelude.{MatchResult, IsTrue, true};
+ghost use Rattle.erim_defs.specs.Bits.{has_bit};
 ghost use Rattle.erim_defs.specs.Encoding.Parts.{AreBytes};
 ghost use Rattle.erim_defs.specs.Inspection.Image.{IsAccepted, entry_point, image_heaps};
 ghost use Rattle.erim_defs.specs.Inspection.Image.{image_trust};
+ghost use Rattle.erim_defs.specs.Inspection.Trust.{is_domain};
 ghost use Rattle.erim_defs.specs.Machine.State.{Setup as Given};
 ghost use Rattle.erim_defs.specs.Machine.Start.{first_thread, frames_needed, first_state};
 ghost use Rattle.erim_process.specs.Machine.{machine_state};
@@ -68,6 +70,20 @@ fn first_thread(entry: u64, trust: &Trust) -> Thread
     }
 }
 
+/// The keys that are allocated at the start: 0 and the domains.
+fn first_keys(trust: &Trust) -> Keys
+    ensures { (image : List ℕ) → image_trust image ≡ trust.now → (key : ℕ)
+        → has_bit result.taken key ≡ (key == 0 || is_domain (image_trust image) key) }
+{
+    Keys {
+        taken: 1
+            + 2 * u16::from(trust.is_domain(1))
+            + 4 * u16::from(trust.is_domain(2))
+            + 8 * u16::from(trust.is_domain(3))
+            + 16 * u16::from(trust.is_domain(4)),
+    }
+}
+
 /// The machine with its image loaded. It takes all its memory here.
 pub(crate) fn load_machine(alloc: Global, setup: &Setup) -> Result<Machine<PageList>, StartFault>
     requires { frames_needed setup.now.image ≤ setup.now.frames }
@@ -84,21 +100,14 @@ pub(crate) fn load_machine(alloc: Global, setup: &Setup) -> Result<Machine<PageL
 {
     let image = &setup.image;
     let mut pages = PageList::new(alloc, setup.frames)?;
-    load_pages(
-        &mut pages,
-        image.bytes(),
-        image.segments(),
-        image.trust(),
-        image.trusted_pages(),
-        image.heaps(),
-    );
+    load_pages(&mut pages, image);
     let threads = Threads::new(alloc, first_thread(image.entry(), image.trust()))?;
     let heap = Heap::new(alloc, image.heaps())?;
     let output = Output::new(alloc)?;
     Ok(Machine {
         pages,
         threads,
-        keys: Keys::FIRST,
+        keys: first_keys(image.trust()),
         heap,
         output,
         end: None,

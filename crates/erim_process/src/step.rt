@@ -1,6 +1,7 @@
 //! One step of a thread.
 
 ghost use Rattle.std.specs.Prelude.{◌≡◌, ◌≢◌, ◌<◌, ◌+◌, ◌/◌, ◌^◌, ℕ, length, None, Some};
+ghost use Rattle.erim_defs.specs.declared.machine.Access.TheVariants as Access;
 ghost use Rattle.erim_defs.specs.declared.machine.End.TheVariants.{Fault};
 ghost use Rattle.erim_defs.specs.declared.insn.FetchOutcome.TheVariants.{Runs};
 ghost use Rattle.erim_defs.specs.Machine.Access.{whole};
@@ -14,7 +15,8 @@ ghost use Rattle.erim_defs.specs.Machine.Isolation.{IsSafeCode};
 ghost use Rattle.erim_defs.specs.Machine.Pages.{code_with, published_code};
 ghost use Rattle.erim_defs.specs.Machine.State.{Setup, code, trust_of};
 ghost use Rattle.erim_defs.specs.Machine.Step.{step, after_fetch, after_instruction};
-ghost use Rattle.erim_defs.specs.Machine.Step.{after_exec_fault, after_verdict, fetch};
+ghost use Rattle.erim_defs.specs.Machine.Step.{after_exec_fault, after_stop, after_take_back};
+ghost use Rattle.erim_defs.specs.Machine.Step.{after_verdict, after_write_fault, fetch};
 ghost use Rattle.page_store.specs.Answers.{rights_in};
 ghost use Rattle.erim_process.specs.Machine.{Becomes, IsBounded, KeepsLimits, machine_state};
 ghost use Rattle.erim_process.specs.StepFacts.{answer};
@@ -25,7 +27,8 @@ use crate::machine::Machine;
 use crate::stepped::Stepped;
 use erim_defs::page::USER_END_PAGE;
 use erim_defs::{Cause, End, FetchOutcome, Insn, Thread, Trust};
-use exec_fault::{Verdict, publish, verdict};
+use exec_fault::{Verdict, publish, take_back, verdict};
+use map_calls::is_pinned;
 use page_store::{Memory, Pages};
 use x86_step::{Exec, exec};
 
@@ -84,6 +87,48 @@ impl<P: Pages> Machine<P> {
         }
     }
 
+    /// Takes the publication of a page back, unless the origin of a thread pins it.
+    fn take_back(&mut self, page: u64)
+        requires low { page < 2 ^ 35 }
+        ensures state { (setup : Setup) (rights : Rights)
+            → rights_in (P.seen self.old.pages) page ≡ Some rights
+            → machine_state P.Memory setup self.new
+            ≡ after_take_back page rights (machine_state P.Memory setup self.old) }
+        ensures kept { KeepsLimits P.Memory self.old self.new }
+    {
+        if !is_pinned(self.threads.list(), page) {
+            take_back(&mut self.pages, page);
+        }
+    }
+
+    /// The thread wants to write to a page that isn't writable. Where that is for its publication
+    /// alone, the page takes it back; else the process ends. The thread doesn't move.
+    fn write_fault(&mut self, t: u8, thread: &Thread, addr: u64)
+        ensures state { (setup : Setup) → machine_state P.Memory setup self.new
+            ≡ after_write_fault (rights_in (P.seen self.old.pages) (addr / 4096)) addr
+            (record { number = t; thread = thread.now }) (machine_state P.Memory setup self.old) }
+        ensures kept { KeepsLimits P.Memory self.old self.new }
+    {
+        let page = addr / 4096;
+        match self.pages.rights(page) {
+            Some(rights) if rights.is_write_fault(thread.pkru) => self.take_back(page),
+            _ => self.fail(t, thread.rip, Cause::Write, addr),
+        }
+    }
+
+    /// An access stops with this cause.
+    fn stop(&mut self, t: u8, thread: &Thread, cause: Cause, addr: u64)
+        ensures state { (setup : Setup) → machine_state P.Memory setup self.new
+            ≡ after_stop (Access.Fault cause addr) (record { number = t; thread = thread.now })
+            (machine_state P.Memory setup self.old) }
+        ensures kept { KeepsLimits P.Memory self.old self.new }
+    {
+        match cause {
+            Cause::Write => self.write_fault(t, thread, addr),
+            _ => self.fail(t, thread.rip, cause, addr),
+        }
+    }
+
     /// What an instruction makes of the thread.
     fn run(&mut self, trust: &Trust, t: u8, thread: &Thread, insn: &Insn, len: u8, skip: u8)
         requires placed { IsBounded (Runs insn.now len skip) thread.now.rip }
@@ -99,7 +144,7 @@ impl<P: Pages> Machine<P> {
         match exec(insn, len, skip, trust, &mut new, &mut self.pages) {
             Exec::Done { escaped } => self.settle(t, &new, escaped),
             Exec::Syscall => self.call(trust, t, thread, &behind_syscall(thread, len)),
-            Exec::Fault { cause, addr } => self.fail(t, thread.rip, cause, addr),
+            Exec::Fault { cause, addr } => self.stop(t, thread, cause, addr),
             // The pages hold every page.
             Exec::Missing { .. } => {}
         }

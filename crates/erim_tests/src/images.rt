@@ -81,7 +81,7 @@ a desc that ends one byte past the segment's file part | 208:8=4b | note at 768
 a count that isn't | 792:4=3 | note at 768
 257 records | 772:4=1820 792:4=101 208:8=1834 | note at 768
 a second trust note | 208:8=68 844:4=5 848:4=8 852:4=1 856:8=4d495245 864:4=1 | note at 844
-version | 788:4=2 | note version
+version | 788:4=3 | note version
 version 2^24 + 1 | 788:4=1000001 | note version
 key | 800:4=2 | record 0
 kind | 820:4=5 | record 1
@@ -170,8 +170,8 @@ short, not static | 32:8=3f59 176:4=2 | short at 16384
 not static, range of an earlier header | 176:4=2 72:8=2001 | header 2 not static
 range, shared page of an earlier header | 184:8=3fb5 136:8=402000 | segment 2 range
 shared page, note | 136:8=402000 768:4=ffffffff | segment 1 shares a page
-a later note, version of an earlier one | 208:8=58 788:4=2 844:4=1 | note at 844
-version, key | 788:4=2 800:4=2 | note version
+a later note, version of an earlier one | 208:8=58 788:4=3 844:4=1 | note at 844
+version, key | 788:4=3 800:4=2 | note version
 a later record, text of an earlier one | 68:4=7 824:4=2 | record 1
 text, data of an earlier record | 796:4=2 820:4=1 828:8=404000 836:8=1000 | record 1 text
 data, entry of an earlier record

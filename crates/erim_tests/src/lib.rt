@@ -19,8 +19,6 @@ mod delivering;
 #[cfg(test)]
 mod edges;
 #[cfg(test)]
-mod examples;
-#[cfg(test)]
 mod faults;
 #[cfg(test)]
 mod files;

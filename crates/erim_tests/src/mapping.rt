@@ -86,11 +86,10 @@ the same with wrpkru
 89dfbe00100000ba05000000b80a0000000f05 ffd3 | - | 401000 1 18
 | output 0//steps 18/end refused page 0x000010000000 wrpkru at 0x000010000000 thread 0/
 escape none/thread 0 steps 18 pkru 0x55555554/worker 0 steps 18/;
-a page that may be written and executed isn't writable any more once it ran
+a page that may be written and executed is written anew once it ran
 | 401000 5 1 0 31ffbe00100000ba0700000041ba22000000b8090000000f05 c600c3ffd0c600c3ffd0
-31ffb8e70000000f05 | - | 401000 1 12
-| output 0//steps 12/end fault write thread 0 rip 0x00000040101e at 0x000010000000/
-escape none/thread 0 steps 12 pkru 0x55555554/worker 0 steps 12/;
+31ffb8e70000000f05 | - | 401000 0 19
+| output 0//steps 19/end exit 0/escape none/thread 0 steps 19 pkru 0x55555554/worker 0 steps 19/;
 a page that is taken away and published again
 | 401000 5 1 0 bb00204000ffd3 89dfbe00100000ba01000000b80a0000000f05 ba05000000b80a0000000f05
 ffd3 89c7b8e70000000f05, 402000 5 1 0 c3 | - | 401000 0 19

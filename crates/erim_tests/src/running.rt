@@ -64,10 +64,6 @@ an entry one byte early
 1,009 pages and the stack's 16
 | 401000 5 3f1 0 90 | - | 401000 3 -
 | erim: image needs 1025 frames/;
-writable code, that stores into itself
-| 401000 7 1 0 c604250011400001 | - | 401000 1 2
-| output 0//steps 2/end fault write thread 0 rip 0x000000401000 at 0x000000401100/
-escape none/thread 0 steps 2 pkru 0x55555554/worker 0 steps 2/;
 xrstor [rsp - 0x1ff0] that keeps PKRU, and its check on the next page
 | 401000 5 1 ff8 0faeac2410e0ffff, 402000 5 1 0 0fbae0097307b8e70000000f05 bf00000000b8e70000000f05
 | - | 401ff8 0 8

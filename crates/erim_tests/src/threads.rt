@@ -41,6 +41,10 @@ a producer and a consumer of five numbers, who yield
 7409b8180000000f05ebec892c2500404000ffc5ebe1 | -
 | 1 - 60 77 72
 | 64 - 60 335 320;
+one thread, whose page is written, executed, written and executed again
+| 31ffbe00100000ba0700000041ba22000000b8090000000f05c600c3ffd0c600c3ffd031ffb8e70000000f05 | -
+| 1 - 0 19
+| 64 - 0 19;
 four threads on one stack write out their numbers
 | bb03000000bf000f050031f6b8380000000f0585c07404ffcb75eabd03000000b8ba0000000f0583c04050bf
 010000004889e6ba01000000b8010000000f054883c408ffcd75d9b8ba0000000f0589c7b83c0000000f05 | -
@@ -110,6 +114,12 @@ const TAKING: &str = "\
 401000 5 1 0 bf000f0500b8380000000f0585c00f84e02f0000bf00404000be00100000ba03000000b80a0000000f05
 c607BYTEba05000000b80a0000000f05, \
 403000 5 1 ff4 31c931d2b8505555550f01ef, 404000 7 1 0 3d545555557407b8e70000000f05";
+
+/// The same, where the page of the check may be written and executed. The first thread writes
+/// there.
+const WRITING: &str = "\
+401000 5 1 0 bf000f0500b8380000000f0585c00f84ec1f0000c604250033400001, \
+403000 7 1 0 31c931d2VALUE0f01ef 3d545555557407b8e70000000f05 ebfe";
 
 /// RAX, munmap and mprotect, whose protection bits are 0 in RDX.
 const MUNMAP: &str = "b80b000000";
@@ -206,6 +216,11 @@ fn runs(rt: HostRuntime) {
 /// The two threads where the second stands before its check, behind the gate.
 fn racing(rt: &impl Abort, alloc: Global, call: &str, value: &str) -> Process {
     let segments = RACING.replace(alloc, "CALL", call).expect(rt, call);
+    before_check(rt, alloc, segments.as_str(), value)
+}
+
+/// The same, over these segments.
+fn before_check(rt: &impl Abort, alloc: Global, segments: &str, value: &str) -> Process {
     let segments = segments.replace(alloc, "VALUE", value).expect(rt, value);
     let mut process = started(rt, alloc, segments.as_str());
     make(rt, &mut process, 0, 4);
@@ -244,6 +259,26 @@ fn pins_the_page_of_a_check(rt: HostRuntime) {
     }
 }
 
+/// Where the first thread stands, and what is at the place that it writes.
+fn written(rt: &impl Abort, process: &Process) -> (u64, u64) {
+    assert!(rt; process.thread_count() > 0 && process.rights(0x403).is_some());
+    (process.thread(0).rip, process.word(0x403300))
+}
+
+#[test]
+fn takes_no_check_back(rt: HostRuntime) {
+    let mut open = before_check(&rt, rt.alloc(), WRITING, OPENING);
+    make(&rt, &mut open, 0, 3);
+    assert!(rt; is_published(&open) && written(&rt, &open) == (0x401014, 0) && open.steps() == 14);
+    let mut closed = before_check(&rt, rt.alloc(), WRITING, CLOSING);
+    make(&rt, &mut closed, 0, 2);
+    assert!(rt; is_published(&closed));
+    make(&rt, &mut closed, 0, 1);
+    assert!(rt; !is_published(&closed) && written(&rt, &closed) == (0x401014, 0));
+    make(&rt, &mut closed, 0, 1);
+    assert!(rt; !is_published(&closed) && written(&rt, &closed) == (0x40101C, 1));
+}
+
 /// Makes six steps of the first thread and four of the second, in the order of the bits of a
 /// number. The second stands in its check until it ends the process, and the page stays published.
 fn race(rt: &impl Abort, process: &mut Process, order: u16) {
@@ -271,6 +306,8 @@ fn races_in_every_order(rt: HostRuntime) {
             for call in [MUNMAP, MPROTECT] {
                 race(&rt, &mut racing(&rt, rt.alloc(), call, OPENING), order);
             }
+            let mut writing = before_check(&rt, rt.alloc(), WRITING, OPENING);
+            race(&rt, &mut writing, order);
         }
     }
 }

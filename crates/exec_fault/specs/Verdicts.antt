@@ -4,7 +4,7 @@ use Rattle.std.specs.Prelude.{slice_index, nat_lt, if◌then◌else◌}
 use Rattle.erim_defs.specs.declared.found.Found.{Found}
 use Rattle.erim_defs.specs.declared.machine.Rights.{Rights}
 use Rattle.erim_defs.specs.Inspection.Code.{Code}
-use Rattle.erim_defs.specs.Machine.Pages.{ByteMap, published_rights}
+use Rattle.erim_defs.specs.Machine.Pages.{ByteMap, published_rights, taken_back}
 use Rattle.exec_fault.specs.declared.answer.Verdict.{Verdict}
 use Rattle.exec_fault.specs.declared.answer.Verdict.TheVariants.{Publish, Refuse}
 
@@ -17,6 +17,11 @@ verdict_of (Some found) = Refuse found
 abbrev pub published_page : Option Rights → Option Rights
 published_page None = None
 published_page (Some rights) = Some (published_rights rights)
+
+-- a page that is mapped takes its publication back
+abbrev pub taken_back_page : Option Rights → Option Rights
+taken_back_page None = None
+taken_back_page (Some rights) = Some (taken_back rights)
 
 -- two codes have the same bytes on page q, and on the 64 before and behind it
 abbrev pub AgreesNear : Code → Code → ℕ → Type 0

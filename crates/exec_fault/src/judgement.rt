@@ -6,7 +6,7 @@ ghost use Rattle.erim_defs.specs.Machine.Access.{whole};
 ghost use Rattle.erim_defs.specs.Machine.Isolation.{IsSafeCode};
 ghost use Rattle.erim_defs.specs.Machine.Pages.{code_with, published_code, with_value_at};
 ghost use Rattle.page_store.specs.Answers.{rights_in};
-ghost use Rattle.exec_fault.specs.Verdicts.{on_page, published_page, verdict_of};
+ghost use Rattle.exec_fault.specs.Verdicts.{on_page, published_page, taken_back_page, verdict_of};
 
 use crate::answer::Verdict;
 use crate::window::{
@@ -59,5 +59,17 @@ pub fn publish<P: Pages>(pages: &mut P, page: u64)
 {
     if let Some(rights) = pages.rights(page) {
         pages.set_rights(page, rights.published());
+    }
+}
+
+/// Takes the publication of a page back, where it is mapped: it can be written, and not fetched.
+pub fn take_back<P: Pages>(pages: &mut P, page: u64)
+    ensures seen { P.seen pages.new ≡ whole (with_value_at (rights_in (P.seen pages.old)) page
+        (taken_back_page (rights_in (P.seen pages.old) page))) }
+    ensures bytes { P.bytes pages.new ≡ P.bytes pages.old }
+    ensures frames { P.frames pages.new ≡ P.frames pages.old }
+{
+    if let Some(rights) = pages.rights(page) {
+        pages.set_rights(page, rights.taken_back());
     }
 }

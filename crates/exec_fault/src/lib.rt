@@ -11,4 +11,4 @@ mod judgement;
 mod window;
 
 pub use answer::Verdict;
-pub use judgement::{publish, verdict};
+pub use judgement::{publish, take_back, verdict};

@@ -35,7 +35,19 @@ use Rattle.erim_defs.specs.Machine.Start.{rights_at_start, asked_of, asked_in}
 use Rattle.erim_defs.specs.Machine.Replay.{then_, steps_of, replay_from, replay}
 use Rattle.erim_defs.specs.Machine.Isolation.{IsKept, IsRuled, IsStartable}
 use Rattle.erim_defs.proofs.LossLemmas.{unsafe_loses}
-use Rattle.erim_defs.proofs.AcceptedLemmas.{text_is, entries_in, image_low}
+use Rattle.erim_defs.proofs.AcceptedLemmas.{text_is, entries_else, entries_in, image_low}
+use Rattle.erim_defs.proofs.AcceptedLemmas.{page_key_few}
+use Rattle.erim_defs.proofs.AcceptedLemmas.{plain_at_home}
+use Rattle.erim_defs.proofs.DomainLemmas.{pkru_closed}
+use Rattle.erim_defs.specs.declared.machine.Access.{Access}
+use Rattle.erim_defs.specs.Machine.Step.{after_fault, after_stop}
+use Rattle.erim_defs.specs.Machine.State.{is_outside}
+use Rattle.erim_defs.specs.Machine.Start.{page_key}
+use Rattle.erim_defs.specs.Machine.Pages.{asks_write}
+use Rattle.erim_defs.specs.Inspection.Trust.{is_entry_of}
+use Rattle.erim_defs.proofs.WriteFaultLemmas.{stop_either, write_either}
+use Rattle.std.proofs.lemmas.Bool.{or_right}
+use Rattle.std.proofs.Common.{eqb}
 use Rattle.isolation.proofs.DecoderFacts.{AllOf, Decoder}
 use Rattle.isolation.proofs.StandLemmas.{EntriesIn}
 use Rattle.isolation.proofs.MemoryLemmas.{made_kind}
@@ -81,10 +93,6 @@ asked_low (s ∷ ss) q n e = elim (cases_Bool (touches s q)) [
   | inr off ↦ asked_low ss q n (rw off at e)
 ]
 
-key_few : (b : Bool) → cond b 1 0 < 16
-key_few true = lit< tt
-key_few false = lit< tt
-
 -- no byte is loaded where no segment is
 byte_zero : (image : List ℕ) (ss : List Segment) (a : ℕ) → asked_in ss (a / 4096) ≡ None
     → byte_in image ss a ≡ 0
@@ -101,7 +109,7 @@ no_rights text key (Some n) e = absurd cc
 -- a page that isn't the stack's
 pub first_other : (setup : Setup) (q : ℕ) → is_stack q ≡ false
     → first_rights setup q ≡ rights_at_start (in_text_of (image_trust setup.image) (4096 * q))
-    (cond (is_keyed setup.image q) 1 0) (image_asked setup.image q)
+    (page_key setup.image q) (image_asked setup.image q)
 unfolding first_rights
 first_other setup q off = rw off refl
 
@@ -126,9 +134,9 @@ first_ruled setup q r h e = elim (cases_Bool (is_stack q)) [
       ∙ e)) (fresh_ruled 3 0 (lit< tt) (lit< tt))
   | inr off ↦
       start_ruled (in_text_of (image_trust setup.image) (4096 * q))
-      (cond (is_keyed setup.image q) 1 0) (image_asked setup.image q) r
+      (page_key setup.image q) (image_asked setup.image q) r
       (λ text n k. text_asks setup q n h text k)
-      (λ n k. asked_low (segments setup.image) q n k) (key_few (is_keyed setup.image q))
+      (λ n k. asked_low (segments setup.image) q n k) (page_key_few setup.image q h)
       (sym (first_other setup q off) ∙ e)
 ]
 
@@ -136,9 +144,10 @@ first_ruled setup q r h e = elim (cases_Bool (is_stack q)) [
 first_text : (setup : Setup) (q : ℕ) → IsAccepted setup.image
     → in_text_of (image_trust setup.image) (4096 * q) ≡ true
     → (n : ℕ) × (first_rights setup q ≡ Some (published_rights (unpublished_rights n 0)))
+    × (asks_write n ≡ false)
 first_text setup q h text =
     (let w = text_is setup.image q h text in
-    (w.bits, first_other setup q w.stack ∙ rw (text, w.keyed, w.asked) refl))
+    (w.bits, first_other setup q w.stack ∙ rw (text, w.keyed, w.asked) refl, w.sealed))
 
 -- and nothing else is
 start_unpublished : (key : ℕ) (o : Option ℕ) → is_published (rights_at_start false key o) ≡ false
@@ -151,7 +160,7 @@ first_unpublished : (setup : Setup) (q : ℕ)
 first_unpublished setup q other = elim (cases_Bool (is_stack q)) [
   | inl on ↦ ap is_published (first_stack setup q on)
   | inr off ↦ ap is_published (first_other setup q off)
-      ∙ rw other (start_unpublished (cond (is_keyed setup.image q) 1 0) (image_asked setup.image q))
+      ∙ rw other (start_unpublished (page_key setup.image q) (image_asked setup.image q))
 ]
 
 -- what is published is the trusted code
@@ -185,7 +194,7 @@ first_low setup q h high = elim (cases_Bool (is_stack q)) [
   | inr off ↦
       first_other setup q off
       ∙ start_none (in_text_of (image_trust setup.image) (4096 * q))
-      (cond (is_keyed setup.image q) 1 0) (image_asked setup.image q)
+      (page_key setup.image q) (image_asked setup.image q)
       (λ n e. let low = image_low setup.image q n h e in absurd (omega (arith, low, high)))
 ]
 
@@ -196,13 +205,13 @@ first_zero setup a n = elim (cases_Bool (is_stack (a / 4096))) [
       ≡ None = sym (first_stack setup (a / 4096) on) ∙ n in cc)
   | inr off ↦ byte_zero setup.image (segments setup.image) a
       (no_rights (in_text_of (image_trust setup.image) (4096 * (a / 4096)))
-      (cond (is_keyed setup.image (a / 4096)) 1 0) (image_asked setup.image (a / 4096))
+      (page_key setup.image (a / 4096)) (image_asked setup.image (a / 4096))
       (sym (first_other setup (a / 4096) off) ∙ n))
 ]
 
-first_closed : (setup : Setup) → opens (first_thread setup).pkru 1 ≡ false
-unfolding first_thread opens
-first_closed setup = refl
+first_closed : (setup : Setup) → is_outside (image_trust setup.image) (first_thread setup) ≡ false
+unfolding first_thread
+first_closed setup = pkru_closed (image_trust setup.image) _
 
 first_regs : (setup : Setup) → length (first_thread setup).regs ≡ 16
 unfolding first_thread
@@ -224,12 +233,13 @@ kept_loaded setup h = record {
         held = published_rights (unpublished_rights w.0 0);
         mapped = w.1;
         exec = refl;
+        asks = w.2;
         key = refl;
         same = λ a e. refl;
       });
-  keys = (refl, refl);
+  keys = (refl, λ key is. or_right (eqb key 0) _ is);
   origins = (λ _. first_origin setup, tt);
-  stand = λ _ _. (λ _. inl (rw (first_closed setup) refl), tt);
+  stand = λ _ _. (λ _. inl (first_closed setup), tt);
   regs = (first_regs setup, tt);
   low = λ q l. first_low setup q h.accepted l;
   zeros = λ a n. first_zero setup a n;
@@ -268,7 +278,13 @@ kind_loaded N setup nought h a = byte_kind N setup.image (segments setup.image) 
 
 loaded_entries : (setup : Setup) → IsAccepted setup.image → EntriesIn (image_trust setup.image)
 unfolding first_state
-loaded_entries setup h a e = entries_in setup.image a h e
+loaded_entries setup h = record {
+  home = λ a. elim (cases_Bool (is_entry_of (image_trust setup.image) a)) [
+    | inl y ↦ inl (entries_in setup.image a h y)
+    | inr n ↦ inr (entries_else setup.image a n)
+  ];
+  plain = λ plain a p y. plain_at_home setup.image a p h plain y;
+}
 
 -- ---- what a step leaves: the setup, and the kind of the bytes
 
@@ -324,14 +340,25 @@ replied_follows N bytes (ThreadEnd status) t old new s fine =
     (same_follows N s _ refl refl)
 replied_follows N bytes (Quit status) t old new s fine = same_follows N s _ refl refl
 
+stop_follows : (N : ℕ → Type 0) (a : Access) (r : Runner) (s : State)
+    → Follows N s (after_stop a r s)
+stop_follows N a r s = stop_either (Follows N s) a r s (ended a)
+    (λ x e. write_either (Follows N s) (s.rights (x / 4096)) x r s
+    (same_follows N s _ refl refl) (same_follows N s _ refl refl)
+    (λ y m w free. same_follows N s _ refl refl))
+  where
+    ended : (a : Access) → Follows N s (after_fault a r s)
+    ended (Fault cause x) = same_follows N s _ refl refl
+    ended (Missing q) = same_follows N s _ refl refl
+
 did_follows : {N : ℕ → Type 0} → Decoder N
     → (r : Effect) (insn : Insn) (len skip t : ℕ) (old : Thread) (s : State) → IsKept s
     → Follows N s (after_instruction r (record { insn = insn; len = len; skip = skip })
     (record { number = t; thread = old }) s)
 did_follows {N} d (Done new w) insn len skip t old s h =
     record { setup = refl; kind = λ of. made_kind N s.bytes w d.bytes of }
-did_follows {N} d (Stopped (Fault c a)) insn len skip t old s h = same_follows N s _ refl refl
-did_follows {N} d (Stopped (Missing q)) insn len skip t old s h = same_follows N s _ refl refl
+did_follows {N} d (Stopped x) insn len skip t old s h =
+    stop_follows N x (record { number = t; thread = old }) s
 did_follows {N} d Called insn len skip t old s h =
     replied_follows N d.bytes (call_result s t (behind_syscall len old)) t old
     (behind_syscall len old) s (λ v c k. all_fine N s v t (behind_syscall len old) c h k)

@@ -3,10 +3,10 @@ use Rattle.std.proofs.Common.{◌≡◌, ◌/◌, ℕ, Option, Some, None, Bool,
 use Rattle.std.proofs.Common.{is_some, refl, sym, ap, subst, ◌∙◌, inl}
 use Rattle.erim_defs.specs.declared.machine.Thread.{Thread}
 use Rattle.erim_defs.specs.Machine.Pages.{RightsMap, ByteMap, published_code}
-use Rattle.erim_defs.specs.Machine.Access.{opens}
-use Rattle.erim_defs.specs.Machine.State.{State, code}
+use Rattle.erim_defs.specs.Machine.Domains.{opened}
+use Rattle.erim_defs.specs.Machine.State.{State, code, trust_of}
 use Rattle.erim_defs.specs.Machine.CallResult.{Change, Answer, or_refuse, CallResult}
-use Rattle.erim_defs.specs.Machine.Isolation.{IsKept, KeepsText}
+use Rattle.erim_defs.specs.Machine.Isolation.{HasTaken, IsKept, KeepsText}
 use Rattle.isolation.proofs.ThreadLemmas.{origins_same}
 use Rattle.isolation.proofs.KeptLemmas.{IsCopy, IsFine}
 
@@ -47,16 +47,18 @@ text_left s rights bytes q k e f = record {
   held = k.held;
   mapped = e ∙ k.mapped;
   exec = k.exec;
+  asks = k.asks;
   key = k.key;
   same = λ a h. f a h ∙ k.same a h;
 }
 
--- keys 0 and 1 stay taken, the caller is as open as it was, and a thread that is made is a copy
+-- key 0 and the domains stay taken, the caller opens what it opened, and a thread that is made is a
+-- copy
 pub record LeavesPages (s : State) (t : Thread) (c : Change) : Type 0 where
   pub rights : c.rights ≡ s.rights
   pub bytes : c.bytes ≡ s.bytes
-  pub keys : (c.keys 0 ≡ true) × (c.keys 1 ≡ true)
-  pub pkru : opens c.pkru 1 ≡ opens t.pkru 1
+  pub keys : HasTaken (trust_of s) c.keys
+  pub pkru : opened (trust_of s) c.pkru ≡ opened (trust_of s) t.pkru
   pub made : (u : Thread) → c.made ≡ Some u → IsCopy t u
 
 pub left_fine : (N : ℕ → Type 0) (s : State) (t : Thread) (c : Change) → IsKept s

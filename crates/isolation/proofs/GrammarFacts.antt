@@ -11,10 +11,13 @@ use Rattle.isolation.specs.GrammarLaws.{GrammarLaws}
 use Rattle.isolation.proofs.DecoderFacts.{AllOf, Decoder, decoder_of_bytes, IsByte}
 use Rattle.erim_defs.proofs.DecodeLemmas.{decode_is_exact}
 use Rattle.erim_defs.proofs.EncodingLemmas.{prefix_free}
-use Rattle.erim_defs.proofs.CheckEncodings.{encodes_bt, encodes_cmp, encodes_jae, encodes_je}
+use Rattle.erim_defs.proofs.CheckEncodings.{encodes_bt, encodes_compare, encodes_jae, encodes_je}
 use Rattle.erim_defs.proofs.CheckEncodings.{encodes_mov, encodes_syscall}
 use Rattle.erim_defs.proofs.SequenceEncodings.{sequence_encoding}
-use Rattle.erim_defs.specs.Inspection.Trust.{TrustValue}
+use Rattle.erim_defs.specs.Inspection.Trust.{TrustValue, entry_key}
+use Rattle.erim_defs.specs.Inspection.Check.{compared}
+use Rattle.erim_defs.proofs.DomainLemmas.{pkru_few}
+use Rattle.std.proofs.Common.{arith, cond}
 use Rattle.erim_defs.specs.Inspection.Check.{Position, Compare, Branch, Number, Leave, check_insn}
 use Rattle.erim_defs.specs.Inspection.Check.{check_bytes}
 
@@ -22,7 +25,9 @@ use Rattle.erim_defs.specs.Inspection.Check.{check_bytes}
 
 check_spelled : (trust : TrustValue) (kind : SeqKind) (next : ℕ) (position : Position)
     → Encodes (check_bytes trust kind next position) (check_insn trust kind next position) 0
-check_spelled trust Wrpkru next Compare = encodes_cmp
+check_spelled trust Wrpkru next Compare =
+    let few = pkru_few trust (cond trust.strict (entry_key trust next) 0) in
+    encodes_compare (compared trust next) (omega (arith, few))
 check_spelled trust Wrpkru next Branch = encodes_je
 check_spelled trust Wrpkru next Number = encodes_mov
 check_spelled trust Wrpkru next Leave = encodes_syscall

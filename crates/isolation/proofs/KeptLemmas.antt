@@ -19,7 +19,16 @@ use Rattle.erim_defs.specs.declared.insn.FetchOutcome.{FetchOutcome}
 use Rattle.erim_defs.specs.declared.insn.FetchOutcome.TheVariants.{Runs, Need, Wrong}
 use Rattle.erim_defs.specs.Machine.Pages.{RightsMap, ByteMap, published_code, code_with}
 use Rattle.erim_defs.specs.Machine.Pages.{is_published, with_value_at, asks_exec, published_rights}
-use Rattle.erim_defs.specs.Machine.Access.{whole, opens}
+use Rattle.erim_defs.specs.Machine.Pages.{asks_write, taken_back}
+use Rattle.erim_defs.specs.declared.machine.Access.{Access}
+use Rattle.erim_defs.specs.declared.machine.Cause.TheVariants.{Write as WriteCause}
+use Rattle.erim_defs.specs.Machine.MapCalls.{is_pinned}
+use Rattle.erim_defs.specs.Machine.Step.{after_fault, after_stop, after_take_back}
+use Rattle.erim_defs.specs.Machine.Step.{after_write_fault}
+use Rattle.erim_defs.specs.Machine.Step.{is_write_fault}
+use Rattle.isolation.proofs.ThreadLemmas.{origins_unpinned}
+use Rattle.erim_defs.specs.Machine.Access.{whole, opens_write}
+use Rattle.erim_defs.specs.Machine.Domains.{is_set_but, opened}
 use Rattle.erim_defs.specs.Inspection.Image.{image_trust}
 use Rattle.erim_defs.specs.Inspection.Unsafe.{first_unsafe}
 use Rattle.erim_defs.specs.Machine.Plan.{Write, Effect, Done, Stopped, Called, effect}
@@ -38,9 +47,10 @@ use Rattle.erim_defs.specs.Machine.Step.{with_last_end}
 use Rattle.erim_defs.specs.Machine.Step.{after_verdict, after_exec_fault, ready_thread}
 use Rattle.erim_defs.specs.Machine.Step.{after_step_of, if_live, fetch, Runner}
 use Rattle.erim_defs.specs.Machine.Start.{unpublished_rights}
-use Rattle.erim_defs.specs.Machine.Isolation.{IsKept, IsRuled, KeepsText, Stands}
+use Rattle.erim_defs.specs.Machine.Isolation.{HasTaken, IsKept, IsRuled, KeepsText, Stands}
 use Rattle.erim_defs.proofs.WriteLemmas.{IsAllowed, does_allowed, sealed_same}
 use Rattle.erim_defs.proofs.LossLemmas.{Loses, unsafe_loses}
+use Rattle.erim_defs.proofs.WriteFaultLemmas.{stop_either, write_either}
 use Rattle.isolation.proofs.DecoderFacts.{Decoder}
 use Rattle.isolation.proofs.ListLemmas.{OfCode}
 use Rattle.erim_defs.proofs.PlanLemmas.{done_goes}
@@ -49,7 +59,7 @@ use Rattle.isolation.proofs.ThreadLemmas.{stands_same, each_at, each_set, each_a
 use Rattle.isolation.proofs.ThreadLemmas.{each_kept, origins_same, each_grown, settled_origin}
 use Rattle.isolation.proofs.MemoryLemmas.{NotWritable, published_sealed, unmapped_sealed}
 use Rattle.isolation.proofs.MemoryLemmas.{code_same, first_none}
-use Rattle.erim_defs.specs.Inspection.Trust.{in_text_of, TrustValue}
+use Rattle.erim_defs.specs.Inspection.Trust.{in_text_of, text_key, TrustValue}
 
 -- ---- what a kept state says
 
@@ -86,7 +96,7 @@ pub kept_frame : (s : State) (rights : RightsMap) (bytes : ByteMap) (keys : ℕ 
     → ((q : ℕ) (r : Rights) → rights q ≡ Some r → IsRuled r)
     → Loses (published_code rights bytes) (code s)
     → ((q : ℕ) → in_text_of (trust_of s) (4096 * q) ≡ true → KeepsText s.setup rights bytes q)
-    → (keys 0 ≡ true) × (keys 1 ≡ true)
+    → HasTaken (trust_of s) keys
     → KeepsOrigins (published_code rights bytes) (code s) s.threads
     → ((q : ℕ) → 2 ^ 35 ≤ q → rights q ≡ None)
     → ((a : ℕ) → rights (a / 4096) ≡ None → bytes a ≡ 0)
@@ -204,6 +214,7 @@ kept_write s pkru w h a =
       held = k.held;
       mapped = k.mapped;
       exec = k.exec;
+      asks = k.asks;
       key = k.key;
       same = λ x e. published_same s pkru w x h a
           (subst (λ (p : ℕ). is_published (s.rights p) ≡ true) (sym e) (text_published s h q t))
@@ -330,6 +341,7 @@ kept_judged None q r t s h m l a e =
           held = k.held;
           mapped = rw n k.mapped;
           exec = k.exec;
+          asks = k.asks;
           key = k.key;
           same = k.same;
         }
@@ -341,6 +353,7 @@ kept_judged None q r t s h m l a e =
               held = published_rights r;
               mapped = rw z refl;
               exec = refl;
+              asks = ap (λ (x : Rights). asks_write x.asked) (sym u) ∙ k.asks;
               key = ap (λ (x : Rights). x.key) (sym u) ∙ k.key;
               same = k.same;
             })
@@ -370,6 +383,80 @@ kept_fault (Some r) x t s h e = elim (cases_Bool (asks_exec r.asked && ltb (x / 
   | inr k ↦ rw k (kept_ended s (EndFault t.number t.thread.rip Exec x) h)
 ]
 
+-- ---- write faults
+
+back_ruled : (r : Rights) → IsRuled r → asks_write r.asked ≡ true → IsRuled (taken_back r)
+back_ruled r h a = record {
+  sealed = λ f. absurd cc;
+  exec = λ f. absurd cc;
+  read = h.read;
+  write = λ _. sym a;
+  sound = h.sound;
+}
+
+-- a page that isn't pinned takes its publication back
+pub kept_back : (s : State) (q : ℕ) (r : Rights) → IsKept s → s.rights q ≡ Some r
+    → asks_write r.asked ≡ true → is_pinned s.threads q ≡ false
+    → IsKept (record s { rights = with_value_at s.rights q (Some (taken_back r)) })
+kept_back s q r h m a free =
+    let rights : RightsMap = with_value_at s.rights q (Some (taken_back r)) in
+    kept_frame s rights s.bytes s.keys s.blocks s.output h
+    (λ p x k. elim (cases_Bool (eqb p q)) [
+      | inl y ↦ subst IsRuled (some_same (taken_back r) x (rw y at k))
+          (back_ruled r (h.ruled q r m) a)
+      | inr n ↦ h.ruled p x (rw n at k)
+    ])
+    (λ x. elim (cases_Bool (eqb (x / 4096) q)) [
+      | inl y ↦ inr (rw y refl)
+      | inr n ↦ inl (rw n refl)
+    ])
+    (λ p y. (let k = h.text p y in
+    let other : eqb p q ≡ false = elim (cases_Bool (eqb p q)) [
+      | inr n ↦ n
+      | inl z ↦ absurd (let w : p ≡ q = eqb-true _ _ z in
+          let v : Some k.held ≡ Some r = sym k.mapped ∙ ap s.rights w ∙ m in
+          let u : k.held ≡ r = cc in
+          let t : false ≡ true = sym k.asks ∙ ap (λ (x : Rights). asks_write x.asked) u ∙ a in
+          cc)
+    ] in
+    record {
+      held = k.held;
+      mapped = rw other k.mapped;
+      exec = k.exec;
+      asks = k.asks;
+      key = k.key;
+      same = k.same;
+    }))
+    h.keys
+    (origins_unpinned (published_code rights s.bytes) (code s) s.threads
+    (λ x. elim (cases_Bool (eqb (x / 4096) q)) [
+      | inl y ↦ (let e : x / 4096 ≡ q = eqb-true _ _ y in inr (rw e free))
+      | inr n ↦ inl (rw n refl)
+    ]))
+    (λ p y. elim (cases_Bool (eqb p q)) [
+      | inr n ↦ rw n (h.low p y)
+      | inl z ↦ absurd (let w : p ≡ q = eqb-true _ _ z in
+          let v : None ≡ Some r = sym (h.low p y) ∙ ap s.rights w ∙ m in cc)
+    ])
+    (λ x n. elim (cases_Bool (eqb (x / 4096) q)) [
+      | inl y ↦ absurd (let z : Some (taken_back r) ≡ None = rw y at n in cc)
+      | inr y ↦ h.zeros x (rw y at n)
+    ])
+
+-- an access that stops keeps all
+pub kept_stop : (a : Access) (t : ℕ) (old : Thread) (s : State) → IsKept s
+    → IsKept (after_stop a (record { number = t; thread = old }) s)
+kept_stop a t old s h =
+    stop_either IsKept a (record { number = t; thread = old }) s (ended a)
+    (λ x e. write_either IsKept (s.rights (x / 4096)) x (record { number = t; thread = old }) s
+    (kept_ended s (EndFault t old.rip WriteCause x) h) h
+    (λ r m w free. kept_back s (x / 4096) r h m
+    (and_parts (asks_write r.asked) _ (and_parts r.exec _ w).1).0 free))
+  where
+    ended : (a : Access) → IsKept (after_fault a (record { number = t; thread = old }) s)
+    ended (Fault cause x) = kept_ended s (EndFault t old.rip cause x) h
+    ended (Missing q) = h
+
 -- ---- system calls
 
 -- a thread u that the thread t makes by clone: it has what t has, but for numbers in its registers
@@ -387,11 +474,11 @@ pub record IsFine (N : ℕ → Type 0) (s : State) (t : Thread) (c : Change) : T
   pub loses : Loses (published_code c.rights c.bytes) (code s)
   pub text : (q : ℕ) → in_text_of (trust_of s) (4096 * q) ≡ true
       → KeepsText s.setup c.rights c.bytes q
-  pub keys : (c.keys 0 ≡ true) × (c.keys 1 ≡ true)
+  pub keys : HasTaken (trust_of s) c.keys
   pub origins : KeepsOrigins (published_code c.rights c.bytes) (code s) s.threads
   pub low : (q : ℕ) → 2 ^ 35 ≤ q → c.rights q ≡ None
   pub zeros : (a : ℕ) → c.rights (a / 4096) ≡ None → c.bytes a ≡ 0
-  pub pkru : opens c.pkru 1 ≡ opens t.pkru 1
+  pub pkru : opened (trust_of s) c.pkru ≡ opened (trust_of s) t.pkru
   pub made : (u : Thread) → c.made ≡ Some u → IsCopy t u
   pub kind : ((x : ℕ) → x < 256 → N x) → OfState N s → (a : ℕ) → N (c.bytes a)
 
@@ -478,13 +565,14 @@ made_kept s None h regs st = h
 made_kept s (Some u) h regs st = kept_made s u h (regs u refl) (st u refl)
 
 kept_answer : {N : ℕ → Type 0} (s : State) (t v : ℕ) (c : Change) (old new : Thread) → IsKept s
-    → IsFine N s new c → length new.regs ≡ 16 → opens new.pkru 1 ≡ opens old.pkru 1
-    → ((u : Thread) → opens u.pkru 1 ≡ opens old.pkru 1 → CallerIn s old u)
+    → IsFine N s new c → length new.regs ≡ 16
+    → opened (trust_of s) new.pkru ≡ opened (trust_of s) old.pkru
+    → ((u : Thread) → opened (trust_of s) u.pkru ≡ opened (trust_of s) old.pkru → CallerIn s old u)
     → IsKept (after_call (Answer v c) (record { number = t; thread = old }) new s)
 kept_answer s t v c old new h f regs p call =
     let k = kept_changed s new c h f in
     let same : is_outside (trust_of s) (caller_after v c new) ≡ is_outside (trust_of s) new =
-    ap (λ b. b && not (in_text_of (trust_of s) new.rip)) f.pkru in
+    ap (is_set_but (text_key (trust_of s) new.rip)) f.pkru in
     let inside : CallerIn s old (caller_after v c new) = call (caller_after v c new) (f.pkru ∙ p) in
     let on = kept_went (with_change c s) t old (caller_after v c new) None false k
     (length-set new.regs 0 v ∙ regs)
@@ -513,9 +601,10 @@ ended_thread t old new s = after_move (record {
 }) s
 
 kept_replied : {N : ℕ → Type 0} (s : State) (t : ℕ) (r : CallResult) (old new : Thread) → IsKept s
-    → length new.regs ≡ 16 → opens new.pkru 1 ≡ opens old.pkru 1
+    → length new.regs ≡ 16 → opened (trust_of s) new.pkru ≡ opened (trust_of s) old.pkru
     → ((v : ℕ) (c : Change) → r ≡ Answer v c → IsFine N s new c)
-    → (((x : ℕ) → r ≢ Quit x) → (u : Thread) → opens u.pkru 1 ≡ opens old.pkru 1 → CallerIn s old u)
+    → (((x : ℕ) → r ≢ Quit x) → (u : Thread)
+    → opened (trust_of s) u.pkru ≡ opened (trust_of s) old.pkru → CallerIn s old u)
     → IsKept (after_call r (record { number = t; thread = old }) new s)
 kept_replied s t (Refusal e) old new h regs p fine call =
     kept_went s t old (with_register new 0 (2 ^ 64 - e)) None false h
@@ -565,9 +654,7 @@ kept_did : {N : ℕ → Type 0} → Decoder N → AllFine N
     (record { number = t; thread = old }) s)
 kept_did d a s (Done new w) insn len skip t old ent of h run e =
     kept_done d s insn len skip t old new w ent of h run e
-kept_did d a s (Stopped (Fault cause x)) insn len skip t old ent of h run e =
-    kept_ended s (EndFault t old.rip cause x) h
-kept_did d a s (Stopped (Missing q)) insn len skip t old ent of h run e = h
+kept_did d a s (Stopped x) insn len skip t old ent of h run e = kept_stop x t old s h
 kept_did d a s Called insn len skip t old ent of h run e =
     kept_called d s insn len skip t old of h run e (λ v c k. a s v t (behind_syscall len old) c h k)
 

@@ -51,10 +51,11 @@ by_law s new t old r e = record {
   old = old;
   at = r.at;
   live = r.live;
-  touches = λ none touch. touch_law s t old r none touch;
+  touches = λ domain none is touch. touch_law s t old domain r none is touch;
   checks = λ none out. checks_law s new t old r none out e;
-  opens = λ i a b before after closed opened. open_law s new t i a b old r e before after closed
-      opened;
+  opens = λ i domain a b before after shut opened. open_law s new t i domain a b old r e before
+      after
+      shut opened;
   makes = λ number u none some. made_law s new t number old u r e none some;
   publishes = λ q before. publish_law s new t q old r e before;
   refuses = λ u q found. refuse_law s new t u q found old r e;

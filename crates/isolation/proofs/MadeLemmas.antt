@@ -9,8 +9,10 @@ use Rattle.erim_defs.specs.declared.machine.Access.TheVariants.{Fault, Missing}
 use Rattle.erim_defs.specs.declared.insn.Insn.{Insn}
 use Rattle.erim_defs.specs.declared.insn.FetchOutcome.{FetchOutcome}
 use Rattle.erim_defs.specs.declared.insn.FetchOutcome.TheVariants.{Runs, Need, Wrong}
-use Rattle.erim_defs.specs.Inspection.Trust.{in_text_of}
-use Rattle.erim_defs.specs.Machine.Access.{whole, opens}
+use Rattle.erim_defs.specs.Inspection.Trust.{text_key}
+use Rattle.erim_defs.specs.Machine.Access.{whole}
+use Rattle.erim_defs.specs.Machine.Domains.{is_set_but, opened}
+use Rattle.erim_defs.proofs.WriteFaultLemmas.{stop_threads}
 use Rattle.erim_defs.specs.Machine.Plan.{Effect, Done, Stopped, Called, effect}
 use Rattle.erim_defs.specs.Machine.Registers.{register, with_register}
 use Rattle.erim_defs.specs.Machine.Meaning.{plan}
@@ -79,7 +81,7 @@ record IsCopied (s : State) (caller : Thread) (new : State) (t i : ℕ) (u : Thr
   maker : Thread
   at : slice_get new.threads t ≡ Some maker
   rip : u.rip ≡ maker.rip
-  key : opens u.pkru 1 ≡ opens maker.pkru 1
+  key : opened (trust_of new) u.pkru ≡ opened (trust_of new) maker.pkru
   live : u.live ≡ true
   from : u.origin ≡ maker.origin
   origin : is_outside (trust_of new) u ≡ false → u.origin ≡ None
@@ -87,7 +89,8 @@ record IsCopied (s : State) (caller : Thread) (new : State) (t i : ℕ) (u : Thr
 
 copy_made : (s : State) (t i v : ℕ) (c : Change) (old new w : Thread)
     → slice_get s.threads t ≡ Some old → i ≡ length s.threads → new.live ≡ true
-    → opens c.pkru 1 ≡ opens new.pkru 1 → IsCopy new w → StaysIn s v c old new
+    → opened (trust_of s) c.pkru ≡ opened (trust_of s) new.pkru → IsCopy new w
+    → StaysIn s v c old new
     → IsCopied s new (with_new_thread (Some w) (answered s t v c old new)) t i
     (with_origin (trust_of s) None w)
 copy_made s t i v c old new w at last live key copy stays =
@@ -95,7 +98,7 @@ copy_made s t i v c old new w at last live key copy stays =
     let maker : Thread = with_origin (trust_of s) None caller in
     let same : is_outside (trust_of s) w ≡ is_outside (trust_of s) caller =
     copy_outside (trust_of s) new w copy
-    ∙ ap (λ b. b && not (in_text_of (trust_of s) new.rip)) (sym key) in
+    ∙ ap (is_set_but (text_key (trust_of s) new.rip)) (sym key) in
     record {
       call = copy.call;
       next = last;
@@ -103,7 +106,7 @@ copy_made s t i v c old new w at last live key copy stays =
       at = append_get (slice_set s.threads t maker) (with_origin (trust_of s) None w ∷ []) t maker
           (set_here s.threads t maker old at);
       rip = copy.rip;
-      key = ap (λ p. opens p 1) copy.pkru ∙ sym key;
+      key = ap (opened (trust_of s)) copy.pkru ∙ sym key;
       live = copy.live ∙ live;
       from = rw (same, copy.origin) refl;
       origin = settled_origin (trust_of s) None w;
@@ -113,7 +116,8 @@ copy_made s t i v c old new w at last live key copy stays =
 
 answer_made : (o : Option Thread) (s : State) (t i v : ℕ) (c : Change) (old new u : Thread)
     → slice_get s.threads t ≡ Some old → slice_get s.threads i ≡ None → new.live ≡ true
-    → opens c.pkru 1 ≡ opens new.pkru 1 → ((w : Thread) → o ≡ Some w → IsCopy new w)
+    → opened (trust_of s) c.pkru ≡ opened (trust_of s) new.pkru → ((w : Thread) → o ≡ Some w
+    → IsCopy new w)
     → StaysIn s v c old new
     → slice_get (with_new_thread o (answered s t v c old new)).threads i ≡ Some u
     → IsCopied s new (with_new_thread o (answered s t v c old new)) t i u
@@ -157,7 +161,7 @@ answer_stays : (s : State) (insn : Insn) (len skip t v : ℕ) (c : Change) (old 
     → CanStep s t old → fetch (code s) old.rip ≡ Runs insn len skip
     → effect (plan insn len old) (whole s.rights) s.bytes old.pkru old.rip ≡ Called
     → call_result (record s { steps = s.steps + 1 }) t (behind_syscall len old) ≡ Answer v c
-    → opens c.pkru 1 ≡ opens old.pkru 1
+    → opened (trust_of s) c.pkru ≡ opened (trust_of s) old.pkru
     → StaysIn (record s { steps = s.steps + 1 }) v c old (behind_syscall len old)
 answer_stays s insn len skip t v c old r f called answer key e esc =
     let good = run_good s t old r in
@@ -186,10 +190,10 @@ did_made : (d : Effect) (s : State) (insn : Insn) (len skip t i : ℕ) (old u : 
 did_made (Done new w) s insn len skip t i old u r f d none e =
     absurd (set_none s.threads t i (with_origin (trust_of s)
     (sequence_of (record { insn = insn; len = len; skip = skip }) old.rip) new) old u r.at none e)
-did_made (Stopped (Fault x y)) s insn len skip t i old u r f d none e =
-    absurd (same_none s.threads s.threads i u refl none e)
-did_made (Stopped (Missing q)) s insn len skip t i old u r f d none e =
-    absurd (same_none s.threads s.threads i u refl none e)
+did_made (Stopped x) s insn len skip t i old u r f d none e =
+    absurd (same_none _ s.threads i u
+    (stop_threads x (record { number = t; thread = old })
+    (record s { steps = s.steps + 1 })) none e)
 did_made Called s insn len skip t i old u r f d none e =
     let later : State = record s { steps = s.steps + 1 } in
     let fine : (v : ℕ) (c : Change) → call_result later t (behind_syscall len old) ≡ Answer v c

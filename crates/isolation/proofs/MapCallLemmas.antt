@@ -11,8 +11,11 @@ use Rattle.std.proofs.Math.Nat.{mod-add-div, mul_assoc}
 use Rattle.std.specs.Prelude.{option_map}
 use Rattle.erim_defs.specs.declared.machine.Rights.{Rights}
 use Rattle.erim_defs.specs.declared.machine.Thread.{Thread}
-use Rattle.erim_defs.specs.Inspection.Trust.{in_text_of}
-use Rattle.erim_defs.specs.Machine.Access.{opens}
+use Rattle.erim_defs.specs.Inspection.Trust.{in_text_of, is_domain, TrustValue}
+use Rattle.erim_defs.specs.Machine.Domains.{is_denied, opens_domain}
+use Rattle.erim_defs.specs.Machine.MapCalls.{has_denied}
+use Rattle.erim_defs.proofs.DomainLemmas.{rights_opened}
+use Rattle.std.proofs.Common.{eqb-true, eq-eqb}
 use Rattle.erim_defs.specs.Machine.Pages.{asks_exec, is_published}
 use Rattle.erim_defs.specs.Machine.Pages.{published_code}
 use Rattle.erim_defs.specs.Machine.Count.{last_page}
@@ -52,25 +55,38 @@ no_page r test q h i =
     let e : r.first + (q - r.first) ≡ q = omega (arith, low) in
     subst (λ (p : ℕ). test p ≡ false) e k
 
--- what a range that isn't protected has: no trusted text, and trusted memory for an open caller
+-- what a range that isn't protected has: no trusted text, and of domains only pages of those that
+-- the caller opens
 pub record IsApart (s : State) (t : Thread) (r : PageRange) : Type 0 where
   pub text : (q : ℕ) → is_in r q ≡ true → in_text_of (trust_of s) (4096 * q) ≡ false
-  pub keyed : (q : ℕ) → is_in r q ≡ true → has_key (s.rights q) 1 ≡ true
-      → opens t.pkru 1 ≡ true
+  pub keyed : (q domain : ℕ) → is_in r q ≡ true → is_domain (trust_of s) domain ≡ true
+      → has_key (s.rights q) domain ≡ true → opens_domain (trust_of s) t.pkru domain ≡ true
 
-keyed_open : (s : State) (t : Thread) (r : PageRange) (q : ℕ)
-    → (not (opens t.pkru 1) && any_page r (λ q. has_key (s.rights q) 1)) ≡ false
-    → is_in r q ≡ true → has_key (s.rights q) 1 ≡ true → opens t.pkru 1 ≡ true
-keyed_open s t r q p i k = elim (cases_Bool (opens t.pkru 1)) [
-  | inl y ↦ y
-  | inr n ↦ absurd (let z : any_page r (λ q. has_key (s.rights q) 1) ≡ false = rw n at p in
-      let y : false ≡ true = sym (no_page r (λ q. has_key (s.rights q) 1) q z i) ∙ k in cc)
-]
+-- a key that isn't denied is one that the caller opens, where it is a domain
+pub not_denied : (trust : TrustValue) (pkru key domain : ℕ) → is_denied trust pkru key ≡ false
+    → eqb key domain ≡ true → is_domain trust domain ≡ true
+    → opens_domain trust pkru domain ≡ true
+not_denied trust pkru key domain h e is =
+    let same : key ≡ domain = eqb-true _ _ e in
+    not-false (opens_domain trust pkru domain)
+    (by (is_domain trust domain) (not (opens_domain trust pkru domain)) is
+    (ap (is_denied trust pkru) (sym same) ∙ h))
+  where
+    by : (b c : Bool) → b ≡ true → (b && c) ≡ false → c ≡ false
+    by true c e h = h
+    by false c e h = absurd cc
+
+keyed_by : (s : State) (t : Thread) (o : Option Rights) (domain : ℕ) → has_denied s t o ≡ false
+    → is_domain (trust_of s) domain ≡ true → has_key o domain ≡ true
+    → opens_domain (trust_of s) t.pkru domain ≡ true
+keyed_by s t None domain h is e = absurd cc
+keyed_by s t (Some r) domain h is e = not_denied (trust_of s) t.pkru r.key domain h e is
 
 apart_by : (s : State) (t : Thread) (r : PageRange) → is_protected s t r ≡ false → IsApart s t r
 apart_by s t r p = record {
   text = λ q i. no_page r (λ q. in_text_of (trust_of s) (4096 * q)) q (or_parts _ _ p).0 i;
-  keyed = λ q i k. keyed_open s t r q (or_parts _ _ p).1 i k;
+  keyed = λ q domain i is k. keyed_by s t (s.rights q) domain
+      (no_page r (λ q. has_denied s t (s.rights q)) q (or_parts _ _ p).1 i) is k;
 }
 
 -- trusted text is outside such a range
@@ -194,7 +210,7 @@ free_apart s t r h free = record {
     | inl y ↦ absurd (let w = h.text q y in
         let z : None ≡ Some w.held = sym (free.unmapped q i) ∙ w.mapped in cc)
   ];
-  keyed = λ q i y. absurd (let z : false ≡ true = rw (free.unmapped q i) at y in cc);
+  keyed = λ q domain i is y. absurd (let z : false ≡ true = rw (free.unmapped q i) at y in cc);
 }
 
 mmap_from_remaps : (s : State) (t : Thread) (count prot v : ℕ) (o : Option ℕ) (c : Change)
@@ -424,42 +440,24 @@ pkey_mprotect_protects s t addr len prot key v c e =
 
 -- ---- pkey_alloc and pkey_free
 
--- bits of a key from 2 on don't reach key 1
-low_bits : (r u v : ℕ) → ((r + 16 * u) / 4) % 2 ≡ ((r + 16 * v) / 4) % 2
-low_bits r u v = omega arith
-
-rights_open : (pkru key bits : ℕ) → 2 ≤ key
-    → opens (with_key_rights pkru key bits) 1 ≡ opens pkru 1
-unfolding opens with_key_rights
-rights_open pkru key bits l =
-    let m : ℕ = 2 ^ (2 * key - 4) in
-    let x : ℕ = bits + 4 * (pkru / 2 ^ (2 * key + 2)) in
-    let low : ℕ = pkru % 2 ^ (2 * key) in
-    let high : ℕ = pkru / 2 ^ (2 * key) in
-    let two : 2 * key ≡ 4 + (2 * key - 4) = omega (arith, l) in
-    let p : 2 ^ (2 * key) ≡ 16 * m = ap (λ n. 2 ^ n) two ∙ pow-add 2 4 (2 * key - 4) in
-    let old : pkru ≡ low + 16 * (m * high) = sym (mod-add-div pkru (2 ^ (2 * key)))
-    ∙ ap (λ n. low + n) (ap (λ n. n * high) p ∙ mul_assoc 16 m high) in
-    let new : low + 2 ^ (2 * key) * x ≡ low + 16 * (m * x) =
-    ap (λ n. low + n) (ap (λ n. n * x) p ∙ mul_assoc 16 m x) in
-    ap (λ n. eqb n 0)
-    (ap (λ n. (n / 4) % 2) new ∙ low_bits low (m * x) (m * high)
-    ∙ ap (λ n. (n / 4) % 2) (sym old))
-
 alloc_leaves : (s : State) (t : Thread) (bits v : ℕ) (o : Option ℕ) (c : Change) → IsKept s
-    → least_free_key s ≡ o → alloc_key s t bits o ≡ Answer v c → LeavesPages s t c
-alloc_leaves s t bits v None c h e k = absurd cc
-alloc_leaves s t bits v (Some key) c h e k =
+    → bits < 4 → least_free_key s ≡ o → alloc_key s t bits o ≡ Answer v c → LeavesPages s t c
+alloc_leaves s t bits v None c h few e k = absurd cc
+alloc_leaves s t bits v (Some key) c h few e k =
     let made : Change = (let x = no_change s t in record x {
       keys = λ j. eqb j key || s.keys j;
       pkru = with_key_rights t.pkru key bits;
     }) in
-    let two : 1 < key = ltb-true _ _ (and_parts _ _ (least_holds 16 key _ e)).0 in
+    let found = and_parts _ _ (least_holds 16 key _ e) in
+    let two : 1 < key = ltb-true _ _ found.0 in
+    let free : s.keys key ≡ false = not-true _ found.1 in
     subst (LeavesPages s t) (answer_is key v made c k) (record {
       rights = refl;
       bytes = refl;
-      keys = (or_right _ _ h.keys.0, or_right _ _ h.keys.1);
-      pkru = rights_open t.pkru key bits (omega (arith, two));
+      keys = (or_right _ _ h.keys.0, λ d is. or_right _ _ (h.keys.1 d is));
+      pkru = rights_opened s.setup.image t.pkru key bits (omega (arith, two)) few
+          (λ d is e. let z : false ≡ true = sym free ∙ ap s.keys (sym e)
+          ∙ h.keys.1 d is in absurd cc);
       made = λ u n. absurd cc;
     })
 
@@ -467,10 +465,12 @@ pub pkey_alloc_leaves : (s : State) (t : Thread) (flags bits v : ℕ) (c : Chang
     → pkey_alloc_result s t flags bits ≡ Answer v c → LeavesPages s t c
 unfolding pkey_alloc_result
 pkey_alloc_leaves s t flags bits v c h e =
-    alloc_leaves s t bits v (least_free_key s) c h refl (refuse_answer _ _ v _ c e).1
+    let valid = refuse_answer _ _ v _ c e in
+    let few : bits ≤ 3 = ltb-false 3 bits (or_parts _ _ valid.0).1 in
+    alloc_leaves s t bits v (least_free_key s) c h (omega (arith, few)) refl valid.1
 
-other_key : (j key : ℕ) (b : Bool) → j < key → b ≡ true → (not (eqb j key) && b) ≡ true
-other_key j key b l h = let n : j ≢ key = omega (arith, l) in rw (ne_eqb j key n, h) refl
+other_key : (j key : ℕ) (b : Bool) → j ≢ key → b ≡ true → (not (eqb j key) && b) ≡ true
+other_key j key b n h = rw (ne_eqb j key n, h) refl
 
 pub pkey_free_leaves : (s : State) (t : Thread) (key v : ℕ) (c : Change) → IsKept s
     → pkey_free_result s t key ≡ Answer v c → LeavesPages s t c
@@ -480,13 +480,19 @@ pkey_free_leaves s t key v c h e =
     let made : Change = (let x = no_change s t in
     record x { keys = λ j. not (eqb j k) && s.keys j }) in
     let valid = refuse_answer _ _ v _ c e in
-    let l : 1 < k = ltb-true _ _ (and_parts _ _ (not-false _ valid.0)).0 in
+    let plain = or_parts _ _ valid.0 in
+    let other = or_parts _ _ plain.1 in
     subst (LeavesPages s t) (answer_is 0 v made c valid.1) (record {
       rights = refl;
       bytes = refl;
       keys = (
-        other_key 0 k (s.keys 0) (omega (arith, l)) h.keys.0,
-        other_key 1 k (s.keys 1) l h.keys.1,
+        other_key 0 k (s.keys 0) (λ e. let z : false ≡ true = sym plain.0 ∙ eq-eqb k 0
+            (sym e) in absurd cc)
+            h.keys.0,
+        λ d is. other_key d k (s.keys d)
+            (λ e. let z : false ≡ true = sym other.0 ∙ ap (is_domain (trust_of s)) (sym e)
+            ∙ is in absurd cc)
+            (h.keys.1 d is),
       );
       pkru = refl;
       made = λ u n. absurd cc;

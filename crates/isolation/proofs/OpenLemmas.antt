@@ -14,7 +14,7 @@ use Rattle.erim_defs.specs.declared.insn.FetchOutcome.{FetchOutcome}
 use Rattle.erim_defs.specs.declared.insn.FetchOutcome.TheVariants.{Runs, Need, Wrong}
 use Rattle.erim_defs.specs.Inspection.Code.{Code}
 use Rattle.erim_defs.specs.Machine.Pages.{code_with, asks_exec}
-use Rattle.erim_defs.specs.Machine.Access.{whole, opens}
+use Rattle.erim_defs.specs.Machine.Access.{whole}
 use Rattle.erim_defs.specs.Inspection.Occurrence.{occurrence_at}
 use Rattle.erim_defs.specs.Inspection.Safe.{opens_gate, fits}
 use Rattle.erim_defs.specs.Inspection.Unsafe.{first_unsafe}
@@ -43,7 +43,12 @@ use Rattle.isolation.proofs.AlwaysLemmas.{IsGood}
 use Rattle.isolation.proofs.GrammarFacts.{Known, decoder}
 use Rattle.isolation.proofs.RunLemmas.{run_good, step_moves}
 use Rattle.erim_defs.specs.Inspection.Check.{check_of}
-use Rattle.erim_defs.specs.Inspection.Trust.{TrustValue}
+use Rattle.erim_defs.specs.Inspection.Trust.{TrustValue, flag_at, is_domain}
+use Rattle.erim_defs.specs.Machine.Domains.{opened}
+use Rattle.erim_defs.proofs.DomainLemmas.{domain_flag}
+use Rattle.erim_defs.proofs.WriteFaultLemmas.{stop_threads}
+use Rattle.std.proofs.lemmas.Bool.{and_parts}
+use Rattle.std.proofs.Common.{Bool}
 
 -- ---- lists of threads
 
@@ -78,41 +83,49 @@ made_get (Some v) s j u h = append_get s.threads (with_origin (trust_of s) None 
 
 -- ---- what opens nothing
 
+-- the flag of a domain
+abbrev flag_of : TrustValue → ℕ → Thread → Bool
+flag_of trust d t = flag_at (opened trust t.pkru) d
+
 -- the same thread can't be closed and open
-same_not : (o : Option Thread) (a b : Thread) → o ≡ Some a → o ≡ Some b → opens a.pkru 1 ≡ false
-    → opens b.pkru 1 ≡ true → ⊥
-same_not o a b e f c p =
+same_not : (trust : TrustValue) (d : ℕ) (o : Option Thread) (a b : Thread) → o ≡ Some a
+    → o ≡ Some b → flag_of trust d a ≡ false → flag_of trust d b ≡ true → ⊥
+same_not trust d o a b e f c p =
     let k : Some a ≡ Some b = sym e ∙ f in
     let z : a ≡ b = cc in
-    let y : false ≡ true = sym c ∙ ap (λ (x : Thread). opens x.pkru 1) z ∙ p in
+    let y : false ≡ true = sym c ∙ ap (flag_of trust d) z ∙ p in
     cc
 
 -- where the key 1 of the thread that moves is as before, nobody opens
-went_not : (ts : List Thread) (t i : ℕ) (old v a b : Thread) → slice_get ts t ≡ Some old
-    → opens v.pkru 1 ≡ opens old.pkru 1 → slice_get ts i ≡ Some a
+went_not : (trust : TrustValue) (d : ℕ) (ts : List Thread) (t i : ℕ) (old v a b : Thread)
+    → slice_get ts t ≡ Some old
+    → opened trust v.pkru ≡ opened trust old.pkru → slice_get ts i ≡ Some a
     → slice_get (slice_set ts t v) i ≡ Some b
-    → opens a.pkru 1 ≡ false → opens b.pkru 1 ≡ true → ⊥
-went_not ts t i old v a b at p e f c o = elim (set_get ts t i v b f) [
-  | inr g ↦ same_not (slice_get ts i) a b e g c o
+    → flag_of trust d a ≡ false → flag_of trust d b ≡ true → ⊥
+went_not trust d ts t i old v a b at p e f c o = elim (set_get ts t i v b f) [
+  | inr g ↦ same_not trust d (slice_get ts i) a b e g c o
   | inl (own, is) ↦
       (let k : Some old ≡ Some a = sym at ∙ sym (ap (slice_get ts) own) ∙ e in
       let z : old ≡ a = cc in
-      let y : false ≡ true = sym c ∙ sym (ap (λ (x : Thread). opens x.pkru 1) z) ∙ sym p
-      ∙ sym (ap (λ (x : Thread). opens x.pkru 1) is) ∙ o in
+      let y : false ≡ true = sym c ∙ sym (ap (flag_of trust d) z)
+      ∙ ap (λ (fs : List Bool). flag_at fs d) (sym p) ∙ sym (ap (flag_of trust d) is) ∙ o in
       absurd cc)
 ]
 
 -- no call opens a thread
-replied_not : (r : CallResult) (t i : ℕ) (old new a b : Thread) (s : State)
-    → slice_get s.threads t ≡ Some old → opens new.pkru 1 ≡ opens old.pkru 1
-    → ((v : ℕ) (c : Change) → r ≡ Answer v c → opens c.pkru 1 ≡ opens new.pkru 1)
+replied_not : (d : ℕ) (r : CallResult) (t i : ℕ) (old new a b : Thread) (s : State)
+    → slice_get s.threads t ≡ Some old
+    → opened (trust_of s) new.pkru ≡ opened (trust_of s) old.pkru
+    → ((v : ℕ) (c : Change) → r ≡ Answer v c
+    → opened (trust_of s) c.pkru ≡ opened (trust_of s) new.pkru)
     → slice_get s.threads i ≡ Some a
     → slice_get (after_call r (record { number = t; thread = old }) new s).threads i ≡ Some b
-    → opens a.pkru 1 ≡ false → opens b.pkru 1 ≡ true → ⊥
-replied_not (Refusal e) t i old new a b s at p q f g c o =
-    went_not s.threads t i old (with_origin (trust_of s) None (with_register new 0 (2 ^ 64 - e))) a
+    → flag_of (trust_of s) d a ≡ false → flag_of (trust_of s) d b ≡ true → ⊥
+replied_not d (Refusal e) t i old new a b s at p q f g c o =
+    went_not (trust_of s) d s.threads t i old (with_origin (trust_of s) None (with_register new 0
+    (2 ^ 64 - e))) a
     b at p f g c o
-replied_not (Answer v ch) t i old new a b s at p q f g c o =
+replied_not d (Answer v ch) t i old new a b s at p q f g c o =
     let n : Thread = with_origin (trust_of s) None (caller_after v ch new) in
     let moved : State = after_move (record {
       runner = record { number = t; thread = old };
@@ -125,14 +138,15 @@ replied_not (Answer v ch) t i old new a b s at p q f g c o =
     made_get ch.made moved i u.0 u.1 in
     let k : Some u.0 ≡ Some b = sym z ∙ g in
     let y : u.0 ≡ b = cc in
-    went_not s.threads t i old n a b at (q v ch refl ∙ p) f (u.1 ∙ ap Some y) c o
-replied_not (ThreadEnd n) t i old new a b s at p q f g c o =
+    went_not (trust_of s) d s.threads t i old n a b at (q v ch refl ∙ p) f (u.1 ∙ ap Some y) c o
+replied_not d (ThreadEnd n) t i old new a b s at p q f g c o =
     let ended : State = ended_thread t old new s in
     let same = last_either (λ (x : State). x.threads ≡ ended.threads) n ended refl refl in
-    went_not s.threads t i old (with_origin (trust_of s) None (record new { live = false })) a b at
+    went_not (trust_of s) d s.threads t i old (with_origin (trust_of s) None
+    (record new { live = false })) a b at
     p f (ap (λ (ts : List Thread). slice_get ts i) (sym same) ∙ g) c o
-replied_not (Quit n) t i old new a b s at p q f g c o =
-    went_not s.threads t i old (with_origin (trust_of s) None new) a b at p f g c o
+replied_not d (Quit n) t i old new a b s at p q f g c o =
+    went_not (trust_of s) d s.threads t i old (with_origin (trust_of s) None new) a b at p f g c o
 
 judged_threads : (u : Option Found) (q : ℕ) (r : Rights) (t : Runner) (s : State)
     → (after_verdict u q r t s).threads ≡ s.threads
@@ -185,22 +199,23 @@ opened_free s t i a b new insn len skip h own f g is free =
       behind = behind_gate (image_trust s.setup.image) (code s) o b.rip h.kept.safe q.occurs to;
     }
 
-opened_done : (s : State) (t i : ℕ) (old a b new : Thread) (insn : Insn) (len skip : ℕ)
+opened_done : (d : ℕ) (s : State) (t i : ℕ) (old a b new : Thread) (insn : Insn) (len skip : ℕ)
     → IsGood Known s → slice_get s.threads t ≡ Some old
     → fetch (code s) old.rip ≡ Runs insn len skip → Goes insn len old new
     → slice_get s.threads i ≡ Some a
     → slice_get (slice_set s.threads t
     (with_origin (trust_of s) (sequence_of (record { insn = insn; len = len; skip = skip })
-    old.rip) new)) i ≡ Some b → opens a.pkru 1 ≡ false → opens b.pkru 1 ≡ true → Opened s t i a b
-opened_done s t i old a b new insn len skip h at f g e k c o =
+    old.rip) new)) i ≡ Some b → flag_of (trust_of s) d a ≡ false → flag_of (trust_of s) d b
+    ≡ true → Opened s t i a b
+opened_done d s t i old a b new insn len skip h at f g e k c o =
     elim (cases_Bool (is_free insn old)) [
-      | inr n ↦ absurd (went_not s.threads t i old
+      | inr n ↦ absurd (went_not (trust_of s) d s.threads t i old
           (with_origin (trust_of s) (sequence_of (record { insn = insn; len = len; skip = skip })
-          old.rip) new) a b at (ap (λ x. opens x 1) (g.pkru n)) e k c o)
+          old.rip) new) a b at (ap (opened (trust_of s)) (g.pkru n)) e k c o)
       | inl free ↦ elim (set_get s.threads t i
           (with_origin (trust_of s) (sequence_of (record { insn = insn; len = len; skip = skip })
           old.rip) new) b k) [
-            | inr same ↦ absurd (same_not (slice_get s.threads i) a b e same c o)
+            | inr same ↦ absurd (same_not (trust_of s) d (slice_get s.threads i) a b e same c o)
             | inl (own, is) ↦ moved_own own is free
           ]
     ]
@@ -220,49 +235,57 @@ opened_done s t i old a b new insn len skip h at f g e k c o =
 
 -- ---- a step
 
-did_opened : (d : Effect) (s : State) (t i : ℕ) (old a b : Thread) (insn : Insn) (len skip : ℕ)
+did_opened : (d : ℕ) (y : Effect) (s : State) (t i : ℕ) (old a b : Thread) (insn : Insn)
+    (len skip : ℕ)
     → IsGood Known s → slice_get s.threads t ≡ Some old
     → fetch (code s) old.rip ≡ Runs insn len skip
-    → effect (plan insn len old) (whole s.rights) s.bytes old.pkru old.rip ≡ d
+    → effect (plan insn len old) (whole s.rights) s.bytes old.pkru old.rip ≡ y
     → slice_get s.threads i ≡ Some a
-    → slice_get (after_instruction d (record { insn = insn; len = len; skip = skip })
+    → slice_get (after_instruction y (record { insn = insn; len = len; skip = skip })
     (record { number = t; thread = old })
     (record s {
       steps = s.steps + 1;
-    })).threads i ≡ Some b → opens a.pkru 1 ≡ false → opens b.pkru 1 ≡ true → Opened s t i a b
-did_opened (Done new w) s t i old a b insn len skip h at f r e k c o =
-    opened_done s t i old a b new insn len skip h at f
+    })).threads i ≡ Some b → flag_of (trust_of s) d a ≡ false → flag_of (trust_of s) d b ≡ true
+    → Opened s t i a b
+did_opened d (Done new w) s t i old a b insn len skip h at f r e k c o =
+    opened_done d s t i old a b new insn len skip h at f
     (done_goes insn len old new w (whole s.rights) s.bytes old.pkru old.rip r) e k c o
-did_opened (Stopped (Fault x y)) s t i old a b insn len skip h at f r e k c o =
-    absurd (same_not (slice_get s.threads i) a b e k c o)
-did_opened (Stopped (Missing q)) s t i old a b insn len skip h at f r e k c o =
-    absurd (same_not (slice_get s.threads i) a b e k c o)
-did_opened Called s t i old a b insn len skip h at f r e k c o =
+did_opened d (Stopped x) s t i old a b insn len skip h at f r e k c o =
+    absurd (same_not (trust_of s) d (slice_get s.threads i) a b e
+    (ap (λ (ts : List Thread). slice_get ts i)
+    (sym (stop_threads x (record { number = t; thread = old }) (record s { steps = s.steps + 1 })))
+    ∙ k) c o)
+did_opened d Called s t i old a b insn len skip h at f r e k c o =
     let n : State = record s { steps = s.steps + 1 } in
-    absurd (replied_not (call_result n t (behind_syscall len old)) t i old (behind_syscall len old)
+    absurd (replied_not d (call_result n t (behind_syscall len old)) t i old
+    (behind_syscall len old)
     a b n at refl (λ v ch q.
     (all_fine Known n v t (behind_syscall len old) ch (kept_later s h.kept) q).pkru) e k c o)
 
-moved_opened : (x : FetchOutcome) (s : State) (t i : ℕ) (old a b : Thread) → IsGood Known s
+moved_opened : (d : ℕ) (x : FetchOutcome) (s : State) (t i : ℕ) (old a b : Thread) → IsGood Known s
     → slice_get s.threads t ≡ Some old → fetch (code s) old.rip ≡ x
     → slice_get s.threads i ≡ Some a
     → slice_get (after_fetch x (record { number = t; thread = old })
     (record s {
       steps = s.steps + 1;
-    })).threads i ≡ Some b → opens a.pkru 1 ≡ false → opens b.pkru 1 ≡ true → Opened s t i a b
-moved_opened (Runs insn len skip) s t i old a b h at f e k c o =
-    did_opened (effect (plan insn len old) (whole s.rights) s.bytes old.pkru old.rip) s t i old a b
+    })).threads i ≡ Some b → flag_of (trust_of s) d a ≡ false → flag_of (trust_of s) d b ≡ true
+    → Opened s t i a b
+moved_opened d (Runs insn len skip) s t i old a b h at f e k c o =
+    did_opened d (effect (plan insn len old)
+    (whole s.rights) s.bytes old.pkru old.rip) s t i old a b
     insn len skip h at f refl e k c o
-moved_opened (Need x) s t i old a b h at f e k c o =
-    absurd (same_not (slice_get s.threads i) a b e
+moved_opened d (Need x) s t i old a b h at f e k c o =
+    absurd (same_not (trust_of s) d (slice_get s.threads i) a b e
     (ap (λ (ts : List Thread). slice_get ts i)
     (sym (fault_threads (s.rights (x / 4096)) x (record { number = t; thread = old })
     (record s { steps = s.steps + 1 }))) ∙ k) c o)
-moved_opened Wrong s t i old a b h at f e k c o =
-    absurd (same_not (slice_get s.threads i) a b e k c o)
+moved_opened d Wrong s t i old a b h at f e k c o =
+    absurd (same_not (trust_of s) d (slice_get s.threads i) a b e k c o)
 
 pub open_law : OpenLaw
-open_law s new t i a b old r e f g c o =
+open_law s new t i d a b old r e f g c o =
     let m = step_moves t s new old r.at e in
-    moved_opened (fetch (code s) old.rip) s t i old a b (run_good s t old r) r.at refl f
-    (ap (λ (x : State). slice_get x.threads i) m ∙ g) c o
+    let is : is_domain (trust_of s) d ≡ true = (and_parts (is_domain (trust_of s) d) _ o).0 in
+    moved_opened d (fetch (code s) old.rip) s t i old a b (run_good s t old r) r.at refl f
+    (ap (λ (x : State). slice_get x.threads i) m ∙ g)
+    (domain_flag s.setup.image a.pkru d is ∙ c) (domain_flag s.setup.image b.pkru d is ∙ o)

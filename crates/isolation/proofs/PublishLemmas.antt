@@ -34,6 +34,9 @@ use Rattle.erim_defs.specs.Machine.Step.{with_end, after_verdict, after_exec_fau
 use Rattle.erim_defs.specs.Machine.Isolation.{IsKept}
 use Rattle.isolation.specs.Laws.{IsPublication, IsRefusal, PublishLaw, RefuseLaw}
 use Rattle.isolation.proofs.KeptLemmas.{IsFine, kept_later, ended_thread, last_either}
+use Rattle.erim_defs.proofs.WriteFaultLemmas.{stop_either, write_either}
+use Rattle.erim_defs.specs.declared.machine.Access.{Access}
+use Rattle.erim_defs.specs.Machine.Step.{after_fault, after_stop}
 use Rattle.isolation.proofs.CallLemmas.{all_fine}
 use Rattle.isolation.proofs.GrammarFacts.{Known}
 use Rattle.isolation.proofs.RunLemmas.{run_good, step_moves}
@@ -161,13 +164,45 @@ replied_publishes (ThreadEnd n) t q old new s h f g =
     same_published (s.rights q) f (ap (λ (m : RightsMap). is_published (m q)) (sym same) ∙ g)
 replied_publishes (Quit n) t q old new s h f g = same_published (s.rights q) f g
 
+-- an access that stops publishes nothing
+stop_published : (a : Access) (r : Runner) (s : State) (q : ℕ) → is_published (s.rights q) ≡ false
+    → is_published ((after_stop a r s).rights q) ≡ true → is_published (s.rights q) ≡ true
+stop_published a r s q off = stop_either (λ x. is_published (x.rights q) ≡ true
+    → is_published (s.rights q) ≡ true) a r s (ended a)
+    (λ x e. write_either (λ y. is_published (y.rights q) ≡ true → is_published (s.rights q) ≡ true)
+    (s.rights (x / 4096)) x r s (λ k. k) (λ k. k)
+    (λ y m w free k. elim (cases_Bool (eqb q (x / 4096))) [
+      | inl e ↦ absurd (let z : false ≡ true = rw e at k in cc)
+      | inr n ↦ rw n at k
+    ]))
+  where
+    ended : (a : Access) → is_published ((after_fault a r s).rights q) ≡ true
+        → is_published (s.rights q) ≡ true
+    ended (Fault cause x) k = k
+    ended (Missing x) k = k
+
+-- nor refuses
+stop_refused : (a : Access) (r : Runner) (s : State) (q : ℕ) (found : Found) (u : ℕ)
+    → s.end ≡ None → (after_stop a r s).end ≡ Some (Refused q found u) → ⊥
+stop_refused a r s q found u none = stop_either (λ x. x.end ≡ Some (Refused q found u) → ⊥) a r s
+    (ended a)
+    (λ x e. write_either (λ y. y.end ≡ Some (Refused q found u) → ⊥) (s.rights (x / 4096)) x r s
+    (λ k. absurd cc) (no_end s none) (λ y m w free. no_end s none))
+  where
+    no_end : (y : State) → y.end ≡ None → y.end ≡ Some (Refused q found u) → ⊥
+    no_end y n k = absurd (let z : None ≡ Some (Refused q found u) = sym n ∙ k in cc)
+
+    ended : (a : Access) → (after_fault a r s).end ≡ Some (Refused q found u) → ⊥
+    ended (Fault cause x) k = absurd cc
+    ended (Missing x) k = no_end s none k
+
 did_publishes : (r : Effect) (insn : Insn) (len skip t q : ℕ) (old : Thread) (s : State) → IsKept s
     → is_published (s.rights q) ≡ false
     → is_published ((after_instruction r (record { insn = insn; len = len; skip = skip })
     (record { number = t; thread = old }) s).rights q) ≡ true → ⊥
 did_publishes (Done new w) insn len skip t q old s h f g = same_published (s.rights q) f g
-did_publishes (Stopped (Fault x y)) insn len skip t q old s h f g = same_published (s.rights q) f g
-did_publishes (Stopped (Missing x)) insn len skip t q old s h f g = same_published (s.rights q) f g
+did_publishes (Stopped x) insn len skip t q old s h f g =
+    same_published (s.rights q) f (stop_published x (record { number = t; thread = old }) s q f g)
 did_publishes Called insn len skip t q old s h f g =
     replied_publishes (call_result s t (behind_syscall len old)) t q old (behind_syscall len old) s
     (λ v c k. all_fine Known s v t (behind_syscall len old) c h k) f g
@@ -325,9 +360,8 @@ did_refuses : (r : Effect) (insn : Insn) (len skip t q : ℕ) (found : Found) (u
     → (after_instruction r (record { insn = insn; len = len; skip = skip })
     (record { number = t; thread = old }) s).end ≡ Some (Refused q found u) → ⊥
 did_refuses (Done new w) insn len skip t q found u old s n f = refused_not s.end q found u n f
-did_refuses (Stopped (Fault x y)) insn len skip t q found u old s n f = absurd cc
-did_refuses (Stopped (Missing x)) insn len skip t q found u old s n f =
-    refused_not s.end q found u n f
+did_refuses (Stopped x) insn len skip t q found u old s n f =
+    stop_refused x (record { number = t; thread = old }) s q found u n f
 did_refuses Called insn len skip t q found u old s n f =
     replied_refuses (call_result s t (behind_syscall len old)) t q found u old
     (behind_syscall len old) s n f

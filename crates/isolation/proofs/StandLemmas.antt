@@ -1,7 +1,8 @@
 -- A thread stands in trusted text, in its check, or is closed: over an instruction, and over a
 -- call.
 use Rattle.std.proofs.Common.{◌≡◌, ◌≢◌, ◌<◌, ◌≤◌, ◌+◌, ◌-◌, ◌%◌, ◌^◌, ◌⊎◌, ℕ, List, length, Option}
-use Rattle.std.proofs.Common.{Some, None, is_some, Bool, true, false, not, ◌&&◌, refl, sym, ap, subst, ◌∙◌}
+use Rattle.std.proofs.Common.{Some, None, is_some, Bool, true, false, not, ◌&&◌, refl, sym, ap}
+use Rattle.std.proofs.Common.{subst, ◌∙◌}
 use Rattle.std.proofs.Common.{arith, inl, inr, ne_eqb, get_or-set_same}
 use Rattle.std.specs.Prelude.{slice_index}
 use Rattle.std.specs.Int.{w32}
@@ -20,7 +21,14 @@ use Rattle.erim_defs.specs.declared.insn.Decoded.TheVariants as answers
 use Rattle.erim_defs.specs.declared.insn.FetchOutcome.TheVariants.{Runs, Need}
 use Rattle.erim_defs.specs.Inspection.Code.{Code, or_else}
 use Rattle.erim_defs.specs.Machine.Pages.{ByteMap, code_bytes}
-use Rattle.erim_defs.specs.Machine.Access.{Seen, opens}
+use Rattle.erim_defs.specs.Machine.Access.{Seen}
+use Rattle.erim_defs.specs.Machine.Domains.{is_set_but, opened}
+use Rattle.erim_defs.specs.Machine.Operands.{immediate}
+use Rattle.erim_defs.specs.declared.insn.Width.TheVariants.{W4}
+use Rattle.erim_defs.proofs.DomainLemmas.{outside_open, pkru_at_home, pkru_closed, pkru_few}
+use Rattle.std.specs.Int.{cast_signed}
+use Rattle.std.proofs.lemmas.Int.{to_z_pos}
+use Rattle.std.proofs.Common.{cond}
 use Rattle.erim_defs.specs.Encoding.Decoding.{decode}
 use Rattle.erim_defs.specs.Machine.Plan.{Plan, Give, Write, Done, Called, effect}
 use Rattle.erim_defs.specs.Machine.Registers.{onward, with_register, eax, register}
@@ -35,9 +43,9 @@ use Rattle.isolation.proofs.DecoderFacts.{Decoder}
 use Rattle.isolation.proofs.ListLemmas.{OfCode, IsSequence, sequence_fact}
 use Rattle.isolation.proofs.CheckLemmas.{check_fetched}
 use Rattle.erim_defs.proofs.PlanLemmas.{Goes, done_goes}
-use Rattle.erim_defs.specs.Inspection.Trust.{in_text_of, TrustValue, is_entry_of}
+use Rattle.erim_defs.specs.Inspection.Trust.{TrustValue, entry_key, is_entry_of, pkru_of, text_key}
 use Rattle.erim_defs.specs.Inspection.Check.{Position, Compare, Branch, Number, Leave, check_insn}
-use Rattle.erim_defs.specs.Inspection.Check.{check_bytes, position_start, closed_value, pkru_bit}
+use Rattle.erim_defs.specs.Inspection.Check.{check_bytes, position_start, compared, pkru_bit}
 use Rattle.erim_defs.specs.Inspection.Safe.{opens_gate}
 use Rattle.erim_defs.specs.Bits.{has_bit}
 
@@ -45,9 +53,12 @@ use Rattle.erim_defs.specs.Bits.{has_bit}
 abbrev pub IsLow : Code → Type 0
 IsLow c = (a : ℕ) → 2 ^ 47 ≤ a → c a ≡ None
 
--- the entries of a setup lie in its trusted text
-abbrev pub EntriesIn : TrustValue → Type 0
-EntriesIn trust = (a : ℕ) → is_entry_of trust a ≡ true → in_text_of trust a ≡ true
+-- the entries of a setup lie in the text of their domain; where an entry is enough, a thread is at
+-- home there
+pub record EntriesIn (trust : TrustValue) : Type 0 where
+  pub home : (a : ℕ) → (text_key trust a ≡ entry_key trust a) ⊎ (entry_key trust a ≡ 0)
+  pub plain : trust.strict ≡ false → (a p : ℕ) → is_entry_of trust a ≡ true
+      → is_set_but (text_key trust a) (opened trust p) ≡ false
 
 pub low_at : (c : Code) (a : ℕ) → IsLow c → is_some (c a) ≡ true → a < 2 ^ 47
 low_at c a l h = elim (cases_lt a (2 ^ 47)) [
@@ -68,16 +79,6 @@ pub fetched_decoded : (c : Code) (rip : ℕ) (insn : Insn) (len skip : ℕ)
     → fetch c rip ≡ Runs insn len skip → decode (code_bytes c rip 15) ≡ answers.Insn insn len skip
 unfolding fetch
 fetched_decoded c rip insn len skip h = fetched_is (decode (code_bytes c rip 15)) _ insn len skip h
-
-but_not : (x y : Bool) → (x && not y) ≡ true → (x ≡ true) × (y ≡ false)
-but_not true true h = absurd cc
-but_not true false h = (refl, refl)
-but_not false y h = absurd cc
-
--- open, and outside trusted text
-pub out_parts : (trust : TrustValue) (t : Thread) → is_outside trust t ≡ true
-    → (opens t.pkru 1 ≡ true) × (in_text_of trust t.rip ≡ false)
-out_parts trust t h = but_not (opens t.pkru 1) (in_text_of trust t.rip) h
 
 -- a thread that isn't out stands, and so does its settled form
 pub stands_in : (trust : TrustValue) (c : Code) (made : Option Found) (t : Thread)
@@ -118,18 +119,35 @@ settled_check trust c t w = elim (cases_Bool (is_outside trust t)) [
 
 -- ---- behind a sequence
 
--- the closed value closes
-closed_closes : (trust : TrustValue) → is_open trust (closed_value trust) ≡ false
-unfolding opens
-closed_closes trust = refl
+-- the value that the check compares with brings home, or closes
+compared_home : (trust : TrustValue) (next : ℕ) → EntriesIn trust
+    → is_set_but (text_key trust next) (opened trust (compared trust next)) ≡ false
+compared_home trust next ent = by trust.strict
+  where
+    at : (o : ℕ) → (text_key trust next ≡ o) ⊎ (o ≡ 0)
+        → is_set_but (text_key trust next) (opened trust (pkru_of trust o)) ≡ false
+    at o (inl same) = subst (λ (k : ℕ). is_set_but k (opened trust (pkru_of trust o)) ≡ false)
+        (sym same) (pkru_at_home trust o)
+    at o (inr none) = subst (λ (k : ℕ). is_set_but (text_key trust next)
+        (opened trust (pkru_of trust k)) ≡ false) (sym none) (pkru_closed trust
+        (text_key trust next))
 
-no_gate : (trust : TrustValue) (a rip : ℕ) → EntriesIn trust → in_text_of trust rip ≡ false
-    → rip ≡ a → is_entry_of trust a ≡ false
-no_gate trust a rip h f e = elim (cases_Bool (is_entry_of trust a)) [
-  | inr n ↦ n
-  | inl y ↦ absurd (let k : in_text_of trust a ≡ true = h a y in
-      let g : in_text_of trust a ≡ false = subst (λ (b : ℕ). in_text_of trust b ≡ false) e f in
-      let z : false ≡ true = sym g ∙ k in cc)
+    by : (b : Bool) → is_set_but (text_key trust next)
+        (opened trust (pkru_of trust (cond b (entry_key trust next) 0))) ≡ false
+    by true = at (entry_key trust next) (ent.home next)
+    by false = pkru_closed trust (text_key trust next)
+
+no_gate : (trust : TrustValue) (t : Thread) (a : ℕ) → EntriesIn trust → is_outside trust t ≡ true
+    → t.rip ≡ a → (not trust.strict && is_entry_of trust a) ≡ false
+no_gate trust t a h out e = elim (cases_Bool trust.strict) [
+  | inl strict ↦ rw strict refl
+  | inr plain ↦ elim (cases_Bool (is_entry_of trust a)) [
+    | inr n ↦ rw (plain, n) refl
+    | inl y ↦ absurd (let k = h.plain plain a t.pkru y in
+        let g : is_set_but (text_key trust a) (opened trust t.pkru) ≡ true =
+        subst (λ (b : ℕ). is_set_but (text_key trust b) (opened trust t.pkru) ≡ true) e out in
+        let z : false ≡ true = sym k ∙ g in cc)
+  ]
 ]
 
 -- an instruction that is free of escape is a sequence
@@ -150,26 +168,29 @@ made_of other k len skip rip is = absurd cc
 
 -- what is known where its check begins
 first_fact : (trust : TrustValue) (insn : Insn) (k : SeqKind) (next len : ℕ) (t new : Thread)
+    → EntriesIn trust → new.rip ≡ next
     → insn_kind insn ≡ Some k → is_free insn t ≡ true → Goes insn len t new
     → is_outside trust new ≡ true → PositionFact trust k next Compare new
-first_fact trust Wrpkru WrpkruKind next len t new is free g out = λ e.
+first_fact trust Wrpkru WrpkruKind next len t new ent at is free g out = λ e.
     let same : eax new ≡ eax t = ap (λ (r : List ℕ). slice_index r 0 % 2 ^ 32) (g.same refl) in
-    let p : new.pkru ≡ closed_value trust = g.value refl ∙ sym same ∙ e in
-    let z : is_open trust (closed_value trust) ≡ true = rw p at (out_parts trust new out).0 in
-    let y : false ≡ true = sym (closed_closes trust) ∙ z in
+    let p : new.pkru ≡ compared trust next = g.value refl ∙ sym same ∙ e in
+    let z : is_set_but (text_key trust next) (opened trust (compared trust next)) ≡ true =
+    ap (λ (a : ℕ). is_set_but (text_key trust a) (opened trust (compared trust next))) (sym at)
+    ∙ ap (λ (q : ℕ). is_set_but (text_key trust new.rip) (opened trust q)) (sym p) ∙ out in
+    let y : false ≡ true = sym (compared_home trust next ent) ∙ z in
     absurd cc
-first_fact trust (Xrstor m) XrstorKind next len t new is free g out =
+first_fact trust (Xrstor m) XrstorKind next len t new ent at is free g out =
     let same : eax new ≡ eax t = ap (λ (r : List ℕ). slice_index r 0 % 2 ^ 32) (g.same free) in
     rw same free
-first_fact trust Wrpkru XrstorKind next len t new is free g out = absurd cc
-first_fact trust (Xrstor m) WrpkruKind next len t new is free g out = absurd cc
-first_fact trust other k next len t new is free g out = absurd cc
+first_fact trust Wrpkru XrstorKind next len t new ent at is free g out = absurd cc
+first_fact trust (Xrstor m) WrpkruKind next len t new ent at is free g out = absurd cc
+first_fact trust other k next len t new ent at is free g out = absurd cc
 
 -- an entry behind it would be in trusted text
-first_gate : (trust : TrustValue) (k : SeqKind) (a rip : ℕ) → EntriesIn trust
-    → in_text_of trust rip ≡ false → rip ≡ a → opens_gate trust k a ≡ false
-first_gate trust WrpkruKind a rip h f e = no_gate trust a rip h f e
-first_gate trust XrstorKind a rip h f e = refl
+first_gate : (trust : TrustValue) (k : SeqKind) (a : ℕ) (t : Thread) → EntriesIn trust
+    → is_outside trust t ≡ true → t.rip ≡ a → opens_gate trust k a ≡ false
+first_gate trust WrpkruKind a t h f e = no_gate trust t a h f e
+first_gate trust XrstorKind a t h f e = refl
 
 -- where the thread stands behind it
 pub behind_sequence : (c : Code) (rip new len skip : ℕ) (k : SeqKind) → IsLow c
@@ -208,10 +229,10 @@ free_stands d trust c insn len skip t new ent of low f free g =
             position = Compare;
             from = settled_from trust (Some o) new out;
             occurs = q.occurs;
-            gate = first_gate trust k (o.at + o.len) new.rip ent (out_parts trust new out).1 to;
+            gate = first_gate trust k (o.at + o.len) new ent out to;
             rip = start_at trust k new.rip (o.at + o.len) to;
             fact = settled_fact trust (Some o) new k (o.at + o.len) Compare
-                (first_fact trust insn k (o.at + o.len) len t new kind.1 free g out);
+                (first_fact trust insn k (o.at + o.len) len t new ent to kind.1 free g out);
           })))
     ]
   where
@@ -225,7 +246,7 @@ free_stands d trust c insn len skip t new ent of low f free g =
 -- the thread behind an instruction of the check
 abbrev pub place_after : TrustValue → SeqKind → ℕ → Position → ℕ → Thread → Thread
 place_after trust WrpkruKind next Compare len t =
-    record (onward len t) { flags = (alu Cmp w32 (eax t) (closed_value trust) t.flags).flags }
+    record (onward len t) { flags = (alu Cmp w32 (eax t) (compared trust next) t.flags).flags }
 place_after trust WrpkruKind next Branch len t = onward len t
 place_after trust WrpkruKind next Number len t = with_register (onward len t) 0 231
 place_after trust WrpkruKind next Leave len t = t
@@ -235,11 +256,22 @@ place_after trust XrstorKind next Branch len t = onward len t
 place_after trust XrstorKind next Number len t = with_register (onward len t) 0 231
 place_after trust XrstorKind next Leave len t = t
 
+-- the number that a comparison is encoded with
+immediate_is : (v : ℕ) → v < 2 ^ 31 → immediate W4 (cast_signed w32 v) ≡ v
+immediate_is v few = rw (to_z_pos w32 v few) (mod_low v few)
+  where
+    mod_low : (n : ℕ) → n < 2 ^ 31 → n % 2 ^ 32 ≡ n
+    mod_low n l = omega (arith, l)
+
+compared_few : (trust : TrustValue) (next : ℕ) → compared trust next < 2 ^ 31
+compared_few trust next = pkru_few trust (cond trust.strict (entry_key trust next) 0)
+
 pub place_plan : (trust : TrustValue) (k : SeqKind) (next : ℕ) (p : Position) (len : ℕ) (t : Thread)
     → p ≢ Leave → PositionFact trust k next p t
     → plan (check_insn trust k next p) len t ≡ Give (place_after trust k next p len t) None
 unfolding plan plan_alu plan_bt plan_jcc plan_mov condition
-place_plan trust WrpkruKind next Compare len t n f = refl
+place_plan trust WrpkruKind next Compare len t n f =
+    rw (immediate_is (compared trust next) (compared_few trust next)) refl
 place_plan trust WrpkruKind next Branch len t n f = rw f refl
 place_plan trust WrpkruKind next Number len t n f = refl
 place_plan trust WrpkruKind next Leave len t n f = absurd (n refl)
@@ -255,10 +287,10 @@ place_next Number = Leave
 place_next Leave = Leave
 
 -- numbers that differ aren't equal when they are compared
-compared_not : (a : ℕ) (f : Flags) → a < 2 ^ 32 → a ≢ 0x55555554
-    → (alu Cmp w32 a 0x55555554 f).flags.zf ≡ false
+compared_not : (a v : ℕ) (f : Flags) → a < 2 ^ 32 → v < 2 ^ 31 → a ≢ v
+    → (alu Cmp w32 a v f).flags.zf ≡ false
 unfolding alu
-compared_not a f low n = ne_eqb _ _ (λ e. absurd (omega (arith, low, n, e)))
+compared_not a v f low few n = ne_eqb _ _ (λ e. absurd (omega (arith, low, few, n, e)))
 
 -- a bit that is set is carried when it is tested
 tested_bit : (a : ℕ) (f : Flags) → has_bit a pkru_bit ≡ true → (bt w32 a pkru_bit f).cf ≡ true
@@ -269,7 +301,8 @@ tested_bit a f h = h
 place_fact : (trust : TrustValue) (k : SeqKind) (next : ℕ) (p : Position) (len : ℕ) (t : Thread)
     → p ≢ Leave → length t.regs ≡ 16 → PositionFact trust k next p t
     → PositionFact trust k next (place_next p) (place_after trust k next p len t)
-place_fact trust WrpkruKind next Compare len t n l f = compared_not (eax t) t.flags (omega arith) f
+place_fact trust WrpkruKind next Compare len t n l f =
+    compared_not (eax t) (compared trust next) t.flags (omega arith) (compared_few trust next) f
 place_fact trust WrpkruKind next Branch len t n l f = tt
 place_fact trust WrpkruKind next Number len t n l f = let h : 0 < length t.regs =
     omega (arith, l) in get_or-set_same t.regs 0 231 0 h
@@ -425,16 +458,11 @@ check_stands d trust c t new wr insn len skip seen bytes pkru rip of safe low re
 -- a thread that was inside and is out has escaped
 leaves : (trust : TrustValue) (free : Bool) (old new : Thread) → free ≡ false
     → is_outside trust old ≡ false → is_outside trust new ≡ true
-    → opens new.pkru 1 ≡ opens old.pkru 1 → is_escape trust free old new ≡ true
+    → opened trust new.pkru ≡ opened trust old.pkru → is_escape trust free old new ≡ true
 leaves trust free old new f o n p =
-    let wide : opens old.pkru 1 ≡ true = sym p ∙ (out_parts trust new n).0 in
-    let text : in_text_of trust old.rip ≡ true =
-    by_text (in_text_of trust old.rip) (rw wide at o) in
-    rw (f, n, wide, text) refl
-  where
-    by_text : (b : Bool) → not b ≡ false → b ≡ true
-    by_text true h = refl
-    by_text false h = absurd cc
+    let wide : is_open trust old.pkru ≡ true =
+    ap (is_set_but 0) (sym p) ∙ outside_open trust new.pkru (text_key trust new.rip) n in
+    rw (f, n, wide, o) refl
 
 -- over an instruction that was done
 pub did_stands : {N : ℕ → Type 0} → Decoder N
@@ -459,7 +487,7 @@ did_stands d trust c t new wr insn len skip seen bytes pkru rip ent of safe low 
               regs w
               f h
           | inl m ↦ absurd (let k = leaves trust (is_free insn t) t new e m o
-              (ap (λ x. opens x 1) (goes.pkru e)) in let z : false ≡ true = sym esc ∙ k in cc)
+              (ap (opened trust) (goes.pkru e)) in let z : false ≡ true = sym esc ∙ k in cc)
         ]
       ]
     ]
@@ -512,7 +540,7 @@ pub called_stands : {N : ℕ → Type 0} → Decoder N
     (bytes : ByteMap) (pkru rip : ℕ)
     → OfCode N c → IsSafeCode trust c → Stands trust c t → fetch c t.rip ≡ Runs insn len skip
     → effect (plan insn len t) seen bytes pkru rip ≡ Called → (register t 0 ≡ 231 → ⊥)
-    → opens new.pkru 1 ≡ opens t.pkru 1 → is_escape trust false t new ≡ false
+    → opened trust new.pkru ≡ opened trust t.pkru → is_escape trust false t new ≡ false
     → is_outside trust new ≡ false
 called_stands d trust c t new insn len skip seen bytes pkru rip of safe (inr w) f h n p esc =
     absurd (n (called_check d trust c t insn len skip seen bytes pkru rip of safe w f h))

@@ -4,12 +4,15 @@ use Rattle.std.proofs.Common.{◌≡◌, List, ◌<◌, ◌/◌, ◌^◌, ℕ, N
 use Rattle.std.proofs.lemmas.Bool.{cases_Bool}
 use Rattle.erim_defs.specs.Inspection.Image.{IsAccepted, image_trust, trusted_code}
 use Rattle.erim_defs.specs.Inspection.Trust.{in_text_of}
-use Rattle.erim_defs.specs.Machine.Start.{unpublished_rights, is_keyed, first_state, trusted_unsafe}
+use Rattle.erim_defs.specs.Machine.Start.{unpublished_rights, is_keyed, first_state, page_key}
+use Rattle.erim_defs.specs.Machine.Start.{trusted_unsafe}
 use Rattle.erim_defs.specs.Machine.State.{Setup}
 use Rattle.isolation.proofs.AlwaysLemmas.{first_other}
 use Rattle.erim_defs.specs.Machine.Isolation.{IsSafeCode}
-use Rattle.isolation.specs.Laws.{IsKeyedPage, KeyLaw, StartLaw}
-use Rattle.erim_defs.proofs.AcceptedLemmas.{image_low, keyed_is, text_is}
+use Rattle.isolation.specs.Laws.{IsKeyedPage, KeyLaw, PlainLaw, StartLaw}
+use Rattle.erim_defs.proofs.PlainLemmas.{plain_check, plain_closed, plain_denied, plain_gate}
+use Rattle.erim_defs.proofs.PlainLemmas.{plain_image, plain_is_open, plain_outside}
+use Rattle.erim_defs.proofs.AcceptedLemmas.{image_low, keyed_domain, keyed_is, text_is}
 use Rattle.isolation.proofs.StandLemmas.{IsLow}
 use Rattle.isolation.proofs.MemoryLemmas.{first_none}
 use Rattle.erim_defs.proofs.AcceptedLemmas.{text_page}
@@ -46,12 +49,28 @@ unfolding first_state
 key_law setup q accepted keyed =
     let w = keyed_is setup.image q accepted keyed in
     record {
-      held = unpublished_rights w.bits 1;
+      held = unpublished_rights w.bits (page_key setup.image q);
       mapped = first_other setup q w.stack
-          ∙ rw (w.text, keyed, w.asked) refl;
+          ∙ rw (w.text, w.asked) refl;
       key = refl;
+      domain = keyed_domain setup.image q accepted keyed;
       hidden = refl;
     }
 
 pub keys_law : KeyLaw
 keys_law setup q h keyed = key_law setup q h.accepted keyed
+
+-- ---- one domain
+
+pub plain_law : PlainLaw
+plain_law image accepted plain =
+    let trust = image_trust image in
+    let is = plain_image image accepted plain in
+    record {
+      closed = plain_closed trust is;
+      opens_one = λ pkru. plain_is_open trust pkru is;
+      outside = λ t. plain_outside trust t is;
+      entry = λ next. plain_gate trust next is;
+      check = λ next. plain_check trust next is;
+      denied = λ pkru key. plain_denied trust pkru key is;
+    }

@@ -48,7 +48,14 @@ use Rattle.isolation.proofs.HeapCallLemmas.{talloc_leaves, tfree_leaves}
 use Rattle.isolation.proofs.AlwaysLemmas.{IsGood}
 use Rattle.isolation.proofs.GrammarFacts.{Known, decoder}
 use Rattle.isolation.proofs.RunLemmas.{entered_reg, run_good, stands_now}
-use Rattle.erim_defs.specs.Inspection.Trust.{in_text_of, TrustValue}
+use Rattle.erim_defs.specs.Inspection.Trust.{TrustValue, is_domain, is_integrity, text_key}
+use Rattle.erim_defs.specs.Machine.Domains.{opens_domain}
+use Rattle.erim_defs.proofs.DomainLemmas.{domain_range, set_but_key}
+use Rattle.erim_defs.specs.Machine.Plan.{Done, Stopped, effect}
+use Rattle.erim_defs.specs.Machine.Pages.{asks_write}
+use Rattle.std.proofs.lemmas.Bool.{and_parts}
+use Rattle.isolation.specs.Laws.{ByFault, Counts, IsOwner}
+use Rattle.isolation.proofs.MapCallLemmas.{not_denied}
 use Rattle.erim_defs.specs.Inspection.Check.{Position, Leave, check_insn, check_bytes}
 
 -- ---- an access that is allowed is open for its key
@@ -60,14 +67,30 @@ write_opens pkru k h =
     let f : (pkru / 2 ^ (2 * k)) % 2 ≡ 0 = omega (arith, e) in
     eq-eqb _ 0 f
 
+-- a byte that may be read or written, of a page of a domain: the domain is open, where that counts
+owned : (trust : TrustValue) (write : Bool) (pkru domain : ℕ) → Counts trust write domain
+    → is_domain trust domain ≡ true → cond write (opens_write pkru domain) (opens pkru domain)
+    ≡ true
+    → opens_domain trust pkru domain ≡ true
+owned trust true pkru domain counts is h = rw is (by (is_integrity trust domain))
+  where
+    by : (i : Bool) → cond i (opens_write pkru domain) (opens pkru domain) ≡ true
+    by true = h
+    by false = write_opens pkru domain h
+owned trust false pkru domain (inl e) is h = absurd cc
+owned trust false pkru domain (inr plain) is h = rw (is, plain) h
+
 some_not : (b : Bool) (x y : Access) → cond b (Some x) (Some y) ≡ None → ⊥
 some_not true x y h = absurd cc
 some_not false x y h = absurd cc
 
+abbrev may : Bool → ℕ → ℕ → Bool
+may write pkru k = cond write (opens_write pkru k) (opens pkru k)
+
 on_opens : (r : Rights) (write : Bool) (pkru a : ℕ) → stop_on r write pkru a ≡ None
-    → opens pkru r.key ≡ true
+    → may write pkru r.key ≡ true
 on_opens r true pkru a h = elim (cases_Bool (opens_write pkru r.key)) [
-  | inl y ↦ write_opens pkru r.key y
+  | inl y ↦ y
   | inr n ↦ absurd (some_not r.write (Fault Key a) (Fault WriteCause a) (rw n at h))
 ]
 on_opens r false pkru a h = elim (cases_Bool (opens pkru r.key)) [
@@ -76,14 +99,14 @@ on_opens r false pkru a h = elim (cases_Bool (opens pkru r.key)) [
 ]
 
 by_opens : (o : Option Rights) (write : Bool) (pkru a k : ℕ) → stop_by (Some o) write pkru a ≡ None
-    → has_key o k ≡ true → opens pkru k ≡ true
+    → has_key o k ≡ true → may write pkru k ≡ true
 by_opens None write pkru a k h e = absurd cc
 by_opens (Some r) write pkru a k h e = let z : r.key ≡ k = eqb-true _ _ e in
-    subst (λ (n : ℕ). opens pkru n ≡ true) z (on_opens r write pkru a h)
+    subst (λ (n : ℕ). may write pkru n ≡ true) z (on_opens r write pkru a h)
 
 at_opens : (rights : RightsMap) (write : Bool) (pkru a k : ℕ)
     → stop_at (whole rights) write pkru a ≡ None → has_key (rights (a / 4096)) k ≡ true
-    → opens pkru k ≡ true
+    → may write pkru k ≡ true
 at_opens rights write pkru a k h e = elim (cases_Bool (ltb a (2 ^ 47))) [
   | inl t ↦ by_opens (rights (a / 4096)) write pkru a k (rw t at h) e
   | inr f ↦ absurd (let z : Some (Fault Unmapped a) ≡ None = rw f at h in cc)
@@ -91,7 +114,7 @@ at_opens rights write pkru a k h e = elim (cases_Bool (ltb a (2 ^ 47))) [
 
 stop_opens : (rights : RightsMap) (write : Bool) (pkru a n x k : ℕ)
     → stop (whole rights) write pkru a n ≡ None → a ≤ x → x < a + n
-    → has_key (rights (x / 4096)) k ≡ true → opens pkru k ≡ true
+    → has_key (rights (x / 4096)) k ≡ true → may write pkru k ≡ true
 unfolding stop
 stop_opens rights write pkru a zero x k h l m e = absurd (omega arith)
 stop_opens rights write pkru a (suc n) x k h l m e =
@@ -103,59 +126,62 @@ stop_opens rights write pkru a (suc n) x k h l m e =
           stop_opens rights write pkru (suc a) n x k p.1 (omega (arith, z)) (omega arith) e)
     ]
 
-reaches_opens : (p : Plan) (rights : RightsMap) (bytes : ByteMap) (pkru x k : ℕ)
-    → Reaches p (whole rights) bytes pkru x → has_key (rights (x / 4096)) k ≡ true
-    → opens pkru k ≡ true
-reaches_opens (Ask a n f) rights bytes pkru x k (s, inl (l, m)) e =
-    stop_opens rights false pkru a n x k s l m e
-reaches_opens (Ask a n f) rights bytes pkru x k (s, inr r) e =
-    reaches_opens (f (word bytes a n)) rights bytes pkru x k r e
-reaches_opens (Give t None) rights bytes pkru x k r e = absurd r
-reaches_opens (Give t (Some w)) rights bytes pkru x k (s, l, m) e =
-    stop_opens rights true pkru w.addr w.count x k s l m e
-reaches_opens Refuse rights bytes pkru x k r e = absurd r
-reaches_opens Call rights bytes pkru x k r e = absurd r
+reaches_opens : (write : Bool) (p : Plan) (rights : RightsMap) (bytes : ByteMap) (pkru x k : ℕ)
+    → Reaches write p (whole rights) bytes pkru x → has_key (rights (x / 4096)) k ≡ true
+    → may write pkru k ≡ true
+reaches_opens write (Ask a n f) rights bytes pkru x k (s, inl (w, l, m)) e =
+    rw w (stop_opens rights false pkru a n x k s l m e)
+reaches_opens write (Ask a n f) rights bytes pkru x k (s, inr r) e =
+    reaches_opens write (f (word bytes a n)) rights bytes pkru x k r e
+reaches_opens write (Give t None) rights bytes pkru x k r e = absurd r
+reaches_opens write (Give t (Some w)) rights bytes pkru x k (s, y, l, m) e =
+    rw y (stop_opens rights true pkru w.addr w.count x k s l m e)
+reaches_opens write Refuse rights bytes pkru x k r e = absurd r
+reaches_opens write Call rights bytes pkru x k r e = absurd r
 
 -- ---- a thread in its check touches nothing
 
-inside_from : (trust : TrustValue) (t : Thread) → is_outside trust t ≡ false → opens t.pkru 1 ≡ true
-    → is_inside trust t ≡ true
-inside_from trust t n o = by_text (in_text_of trust t.rip) (rw o at n)
-  where
-    by_text : (b : Bool) → not b ≡ false → (opens t.pkru 1 && b) ≡ true
-    by_text true h = rw o refl
-    by_text false h = absurd cc
+home_from : (s : State) (t : Thread) (domain : ℕ) → is_outside (trust_of s) t ≡ false
+    → is_domain (trust_of s) domain ≡ true → opens_domain (trust_of s) t.pkru domain ≡ true
+    → IsOwner (trust_of s) t domain
+home_from s t domain n is o =
+    (o, set_but_key s.setup.image (text_key (trust_of s) t.rip) t.pkru domain n is o)
 
-give_reaches : (p : Plan) (t : Thread) (seen : Seen) (bytes : ByteMap) (pkru x : ℕ)
-    → p ≡ Give t None → Reaches p seen bytes pkru x → ⊥
-give_reaches p t seen bytes pkru x e r = let P : Plan
-    → Type 0 = λ q. Reaches q seen bytes pkru x in subst P e r
+give_reaches : (write : Bool) (p : Plan) (t : Thread) (seen : Seen) (bytes : ByteMap) (pkru x : ℕ)
+    → p ≡ Give t None → Reaches write p seen bytes pkru x → ⊥
+give_reaches write p t seen bytes pkru x e r = let P : Plan
+    → Type 0 = λ q. Reaches write q seen bytes pkru x in subst P e r
 
-leave_reaches : (trust : TrustValue) (k : SeqKind) (next len : ℕ) (t : Thread) (seen : Seen)
+leave_reaches : (write : Bool) (trust : TrustValue) (k : SeqKind) (next len : ℕ) (t : Thread)
+    (seen : Seen)
     (bytes : ByteMap) (pkru x : ℕ)
-    → Reaches (plan (check_insn trust k next Leave) len t) seen bytes pkru x → ⊥
+    → Reaches write (plan (check_insn trust k next Leave) len t) seen bytes pkru x → ⊥
 unfolding plan
-leave_reaches trust Wrpkru next len t seen bytes pkru x r = r
-leave_reaches trust Xrstor next len t seen bytes pkru x r = r
+leave_reaches write trust Wrpkru next len t seen bytes pkru x r = r
+leave_reaches write trust Xrstor next len t seen bytes pkru x r = r
 
-place_reaches : (trust : TrustValue) (k : SeqKind) (next : ℕ) (p : Position) (len : ℕ) (t : Thread)
+place_reaches : (write : Bool) (trust : TrustValue) (k : SeqKind) (next : ℕ) (p : Position)
+    (len : ℕ) (t : Thread)
     (seen : Seen) (bytes : ByteMap) (pkru x : ℕ) → PositionFact trust k next p t
-    → Reaches (plan (check_insn trust k next p) len t) seen bytes pkru x → ⊥
-place_reaches trust k next p len t seen bytes pkru x f r = elim (is_leave p) [
-  | inl l ↦ leave_reaches trust k next len t seen bytes pkru x (let P : Position
-      → Type 0 = λ q. Reaches (plan (check_insn trust k next q) len t) seen bytes pkru x in
+    → Reaches write (plan (check_insn trust k next p) len t) seen bytes pkru x → ⊥
+place_reaches write trust k next p len t seen bytes pkru x f r = elim (is_leave p) [
+  | inl l ↦ leave_reaches write trust k next len t seen bytes pkru x (let P : Position
+      → Type 0 = λ q. Reaches write (plan (check_insn trust k next q) len t) seen bytes pkru x in
       subst P l r)
-  | inr n ↦ give_reaches (plan (check_insn trust k next p) len t) (place_after trust k next p len t)
+  | inr n ↦ give_reaches write (plan (check_insn trust k next p) len t)
+      (place_after trust k next p len t)
       seen bytes pkru x (place_plan trust k next p len t n f) r
 ]
 
-insn_inside : (s : State) (old : Thread) (insn : Insn) (len skip x : ℕ) → IsGood Known s
+insn_inside : (write : Bool) (domain : ℕ) (s : State) (old : Thread) (insn : Insn)
+    (len skip x : ℕ) → IsGood Known s
     → Stands (trust_of s) (code s) old
     → fetch (code s) old.rip ≡ Runs insn len skip
-    → Reaches (plan insn len old) (whole s.rights) s.bytes old.pkru x → opens old.pkru 1 ≡ true
-    → is_inside (trust_of s) old ≡ true
-insn_inside s old insn len skip x g (inl n) f r o = inside_from (trust_of s) old n o
-insn_inside s old insn len skip x g (inr w) f r o =
+    → Reaches write (plan insn len old) (whole s.rights) s.bytes old.pkru x
+    → is_domain (trust_of s) domain ≡ true → opens_domain (trust_of s) old.pkru domain ≡ true
+    → IsOwner (trust_of s) old domain
+insn_inside write domain s old insn len skip x g (inl n) f r is o = home_from s old domain n is o
+insn_inside write domain s old insn len skip x g (inr w) f r is o =
     elim (check_fetched decoder (image_trust s.setup.image) (code s) old (code_kind Known s g.kind)
     g.kept.safe w) [
       | inr (y, e) ↦ absurd (let k : Need y ≡ Runs insn len skip = sym e ∙ f in cc)
@@ -164,18 +190,70 @@ insn_inside s old insn len skip x g (inr w) f r o =
           (check_insn (trust_of s) w.origin.kind (w.origin.at + w.origin.len) w.position) len
           (length (check_bytes (trust_of s) w.origin.kind (w.origin.at + w.origin.len) w.position))
           skip 0 (sym f ∙ e) in
-          let q : Reaches (plan (check_insn (trust_of s) w.origin.kind (w.origin.at + w.origin.len)
+          let q : Reaches write (plan (check_insn (trust_of s) w.origin.kind
+          (w.origin.at + w.origin.len)
           w.position) len old) (whole s.rights) s.bytes old.pkru x = subst (λ (i :
-          Insn). Reaches (plan i len old) (whole s.rights) s.bytes old.pkru x) k.0 r in
-          place_reaches (trust_of s) w.origin.kind (w.origin.at + w.origin.len) w.position len old
+          Insn). Reaches write (plan i len old) (whole s.rights) s.bytes old.pkru x) k.0 r in
+          place_reaches write (trust_of s) w.origin.kind
+          (w.origin.at + w.origin.len) w.position len old
           (whole s.rights) s.bytes old.pkru x w.fact q)
     ]
 
-call_inside : (s : State) (t : ℕ) (old : Thread) (len v : ℕ) (c : Change) → IsGood Known s
-    → Stands (trust_of s) (code s) old → MakesCall s t old v c len → opens old.pkru 1 ≡ true
-    → is_inside (trust_of s) old ≡ true
-call_inside s t old len v c g (inl n) m o = inside_from (trust_of s) old n o
-call_inside s t old len v c g (inr w) m o =
+-- an instruction of a check isn't stopped
+give_stops : (p : Plan) (t : Thread) (a : Access) (seen : Seen) (bytes : ByteMap) (pkru rip : ℕ)
+    → p ≡ Give t None → effect p seen bytes pkru rip ≡ Stopped a → ⊥
+unfolding effect
+give_stops p t a seen bytes pkru rip e h = let k : Done t None ≡ Stopped a = rw e at h in absurd cc
+
+leave_stops : (trust : TrustValue) (k : SeqKind) (next len : ℕ) (t : Thread) (a : Access)
+    (seen : Seen) (bytes : ByteMap) (pkru rip : ℕ)
+    → effect (plan (check_insn trust k next Leave) len t) seen bytes pkru rip ≡ Stopped a → ⊥
+unfolding effect plan
+leave_stops trust Wrpkru next len t a seen bytes pkru rip h = absurd cc
+leave_stops trust Xrstor next len t a seen bytes pkru rip h = absurd cc
+
+place_stops : (trust : TrustValue) (k : SeqKind) (next : ℕ) (p : Position) (len : ℕ) (t : Thread)
+    (a : Access) (seen : Seen) (bytes : ByteMap) (pkru rip : ℕ) → PositionFact trust k next p t
+    → effect (plan (check_insn trust k next p) len t) seen bytes pkru rip ≡ Stopped a → ⊥
+place_stops trust k next p len t a seen bytes pkru rip f h = elim (is_leave p) [
+  | inl l ↦ leave_stops trust k next len t a seen bytes pkru rip (let P : Position
+      → Type 0 = λ q. effect (plan (check_insn trust k next q) len t) seen bytes pkru rip
+      ≡ Stopped a in subst P l h)
+  | inr n ↦ give_stops (plan (check_insn trust k next p) len t) (place_after trust k next p len t) a
+      seen bytes pkru rip (place_plan trust k next p len t n f) h
+]
+
+stop_inside : (domain : ℕ) (s : State) (old : Thread) (insn : Insn) (len skip : ℕ) (a : Access)
+    → IsGood Known s → Stands (trust_of s) (code s) old
+    → fetch (code s) old.rip ≡ Runs insn len skip
+    → effect (plan insn len old) (whole s.rights) s.bytes old.pkru old.rip ≡ Stopped a
+    → is_domain (trust_of s) domain ≡ true → opens_domain (trust_of s) old.pkru domain ≡ true
+    → IsOwner (trust_of s) old domain
+stop_inside domain s old insn len skip a g (inl n) f h is o = home_from s old domain n is o
+stop_inside domain s old insn len skip a g (inr w) f h is o =
+    elim (check_fetched decoder (image_trust s.setup.image) (code s) old (code_kind Known s g.kind)
+    g.kept.safe w) [
+      | inr (y, e) ↦ absurd (let k : Need y ≡ Runs insn len skip = sym e ∙ f in cc)
+      | inl e ↦
+          absurd (let k = runs_same insn
+          (check_insn (trust_of s) w.origin.kind (w.origin.at + w.origin.len) w.position) len
+          (length (check_bytes (trust_of s) w.origin.kind (w.origin.at + w.origin.len) w.position))
+          skip 0 (sym f ∙ e) in
+          let q : effect (plan (check_insn (trust_of s) w.origin.kind (w.origin.at + w.origin.len)
+          w.position) len old) (whole s.rights) s.bytes old.pkru old.rip ≡ Stopped a =
+          subst (λ (i : Insn). effect (plan i len old) (whole s.rights) s.bytes old.pkru old.rip
+          ≡ Stopped a) k.0 h in
+          place_stops (trust_of s) w.origin.kind (w.origin.at + w.origin.len) w.position len old a
+          (whole s.rights) s.bytes old.pkru old.rip w.fact q)
+    ]
+
+call_inside : (domain : ℕ) (s : State) (t : ℕ) (old : Thread) (len v : ℕ) (c : Change)
+    → IsGood Known s
+    → Stands (trust_of s) (code s) old → MakesCall s t old v c len
+    → is_domain (trust_of s) domain ≡ true → opens_domain (trust_of s) old.pkru domain ≡ true
+    → IsOwner (trust_of s) old domain
+call_inside domain s t old len v c g (inl n) m is o = home_from s old domain n is o
+call_inside domain s t old len v c g (inr w) m is o =
     absurd (let e = called_check decoder (trust_of s) (code s) old m.insn len m.skip
     (whole s.rights) s.bytes old.pkru old.rip (code_kind Known s g.kind) g.kept.safe w m.runs
     m.called in
@@ -185,16 +263,17 @@ call_inside s t old len v c g (inr w) m o =
 
 -- ---- what calls touch: one lemma a call
 
--- a change of trusted memory is made by an open thread
+-- memory of a domain is changed by a thread that opens it
 abbrev Opens : State → Thread → ℕ → Change → Type 0
-Opens s t q c = Changes s c q → (has_key (s.rights q) 1 ≡ true) ⊎ (has_key (c.rights q) 1 ≡ true)
-    → opens t.pkru 1 ≡ true
+Opens s t q c = (domain : ℕ) → is_domain (trust_of s) domain ≡ true → Changes s c q
+    → (has_key (s.rights q) domain ≡ true) ⊎ (has_key (c.rights q) domain ≡ true)
+    → opens_domain (trust_of s) t.pkru domain ≡ true
 
 -- a change that leaves the pages touches nothing
 left_open : (s : State) (t : Thread) (q : ℕ) (c : Change) → c.rights ≡ s.rights → c.bytes ≡ s.bytes
     → Opens s t q c
-left_open s t q c r b (PageRights n) k = absurd (n (ap (λ (f : RightsMap). f q) r))
-left_open s t q c r b (PageBytes a e n) k = absurd (n (ap (λ (f : ByteMap). f a) b))
+left_open s t q c r b d is (PageRights n) k = absurd (n (ap (λ (f : RightsMap). f q) r))
+left_open s t q c r b d is (PageBytes a e n) k = absurd (n (ap (λ (f : ByteMap). f a) b))
 
 -- what write reads, and that it leaves the pages
 record WriteReads (s : State) (t : Thread) (buf n : ℕ) (c : Change) : Type 0 where
@@ -226,20 +305,22 @@ write_open s t fd buf n v q c e = let w = write_reads s t fd buf n v c e in
 -- a range that is mapped anew or unmapped
 pages_open : (s : State) (t : Thread) (q : ℕ) (r : PageRange) (rights : Option Rights)
     → IsNew rights → IsApart s t r → Opens s t q (with_pages s t r rights)
-pages_open s t q r rights new apart ch k = elim (cases_Bool (is_in r q)) [
+pages_open s t q r rights new apart d is ch k = elim (cases_Bool (is_in r q)) [
   | inl i ↦ elim k [
-    | inl before ↦ apart.keyed q i before
-    | inr after ↦ absurd (new_key rights new (rw i at after))
+    | inl before ↦ apart.keyed q d i is before
+    | inr after ↦ absurd (new_key rights new d is (rw i at after))
   ]
   | inr o ↦ absurd (outside ch o)
 ]
   where
-    new_key : (x : Option Rights) → IsNew x → has_key x 1 ≡ true → ⊥
-    new_key None n e = absurd cc
-    new_key (Some x) n e =
-        let z : x.key ≡ 1 = eqb-true _ _ e in
+    new_key : (x : Option Rights) → IsNew x → (d : ℕ) → is_domain (trust_of s) d ≡ true
+        → has_key x d ≡ true → ⊥
+    new_key None n d is e = absurd cc
+    new_key (Some x) n d is e =
+        let z : x.key ≡ d = eqb-true _ _ e in
         let w : x.key ≡ 0 = (n x refl).plain in
-        omega (arith, z, w)
+        let low : 1 ≤ d = (domain_range s.setup.image d is).0 in
+        omega (arith, z, w, low)
 
     outside : Changes s (with_pages s t r rights) q → is_in r q ≡ false → ⊥
     outside (PageRights n) o = n (rw o refl)
@@ -260,29 +341,28 @@ munmap_open : (s : State) (t : Thread) (addr len v q : ℕ) (c : Change)
 munmap_open s t addr len v q c e = remaps_open s t q c (munmap_remaps s t addr len v c e)
 
 -- a page that is asked anew has its key or one that the caller may give
-anew_open : (s : State) (t : Thread) (prot : ℕ) (key : Option ℕ) (o : Option Rights)
-    → is_trusted_key s t key ≡ false → (has_key o 1 ≡ true → opens t.pkru 1 ≡ true)
-    → has_key (anew_of prot key o) 1 ≡ true → opens t.pkru 1 ≡ true
-anew_open s t prot key None p before after = absurd cc
-anew_open s t prot None (Some r) p before after =
-    before (ap (λ k. eqb k 1) (sym (anew_key prot r.key r)) ∙ after)
-anew_open s t prot (Some j) (Some r) p before after =
-    let one : eqb j 1 ≡ true = ap (λ k. eqb k 1) (sym (anew_key prot j r)) ∙ after in
-    not-false (opens t.pkru 1) (rw one at p)
+anew_open : (s : State) (t : Thread) (prot : ℕ) (key : Option ℕ) (o : Option Rights) (d : ℕ)
+    → is_domain (trust_of s) d ≡ true → is_trusted_key s t key ≡ false
+    → (has_key o d ≡ true → opens_domain (trust_of s) t.pkru d ≡ true)
+    → has_key (anew_of prot key o) d ≡ true → opens_domain (trust_of s) t.pkru d ≡ true
+anew_open s t prot key None d is p before after = absurd cc
+anew_open s t prot None (Some r) d is p before after =
+    before (ap (λ k. eqb k d) (sym (anew_key prot r.key r)) ∙ after)
+anew_open s t prot (Some j) (Some r) d is p before after =
+    let one : eqb j d ≡ true = ap (λ k. eqb k d) (sym (anew_key prot j r)) ∙ after in
+    not_denied (trust_of s) t.pkru j d p one is
 
 prot_open : (s : State) (t : Thread) (q : ℕ) (r : PageRange) (prot : ℕ) (key : Option ℕ)
     → is_trusted_key s t key ≡ false → IsApart s t r → Opens s t q (with_prot s t r prot key)
-prot_open s t q r prot key plain apart ch k = elim (cases_Bool (is_in r q)) [
+prot_open s t q r prot key plain apart d is ch k = elim (cases_Bool (is_in r q)) [
   | inl i ↦ elim k [
-    | inl before ↦ held i before
-    | inr after ↦ anew_open s t prot key (s.rights q) plain (held i) (rw i at after)
+    | inl before ↦ apart.keyed q d i is before
+    | inr after ↦ anew_open s t prot key (s.rights q) d is plain (apart.keyed q d i is)
+        (rw i at after)
   ]
   | inr o ↦ absurd (outside ch o)
 ]
   where
-    held : is_in r q ≡ true → has_key (s.rights q) 1 ≡ true → opens t.pkru 1 ≡ true
-    held i before = apart.keyed q i before
-
     outside : Changes s (with_prot s t r prot key) q → is_in r q ≡ false → ⊥
     outside (PageRights n) o = n (rw o refl)
     outside (PageBytes a e n) o = n refl
@@ -347,12 +427,14 @@ reply_write s number t e = rw e refl
 
 -- ---- all of it
 
-touch_by : (s : State) (t : ℕ) (old : Thread) → IsGood Known s → Stands (trust_of s) (code s) old
-    → Touches s t old → is_inside (trust_of s) old ≡ true
-touch_by s t old g st (ByInsn insn len skip x f r k) =
-    insn_inside s old insn len skip x g st f r
-    (reaches_opens (plan insn len old) s.rights s.bytes old.pkru x 1 r k)
-touch_by s t old g st (ByWrite len v x c m one l h k) =
+touch_by : (s : State) (t : ℕ) (old : Thread) (d : ℕ) → IsGood Known s
+    → Stands (trust_of s) (code s) old → is_domain (trust_of s) d ≡ true → Touches s t old d
+    → IsOwner (trust_of s) old d
+touch_by s t old d g st is (ByInsn write insn len skip x f r n k) =
+    insn_inside write d s old insn len skip x g st f r is
+    (owned (trust_of s) write old.pkru d n is
+    (reaches_opens write (plan insn len old) s.rights s.bytes old.pkru x d r k))
+touch_by s t old d g st is (ByWrite len v x c m one l h n k) =
     let at : register (behind_syscall len old) 6 ≡ register old 6 =
     entered_reg len 6 old (omega arith) (omega arith) in
     let count : register (behind_syscall len old) 2 ≡ register old 2 =
@@ -362,13 +444,21 @@ touch_by s t old g st (ByWrite len v x c m one l h k) =
     sym (reply_write s t (behind_syscall len old) (entered_zero len old ∙ one)) ∙ m.answered in
     let w = write_reads s (behind_syscall len old) (register (behind_syscall len old) 7)
     (register (behind_syscall len old) 6) (register (behind_syscall len old) 2) v c z in
-    call_inside s t old len v c g st m
+    call_inside d s t old len v c g st m is
+    (owned (trust_of s) false old.pkru d n is
     (stop_opens s.rights false old.pkru (register (behind_syscall len old) 6)
-    (register (behind_syscall len old) 2) x 1 w.allowed (omega (arith, at, l))
-    (omega (arith, at, count, h)) k)
-touch_by s t old g st (ByCall len v q c m ch k) =
-    call_inside s t old len v c g st m (reply_open s v q t (behind_syscall len old) c g.kept
-    m.answered ch k)
+    (register (behind_syscall len old) 2) x d w.allowed (omega (arith, at, l))
+    (omega (arith, at, count, h)) k))
+touch_by s t old d g st is (ByCall len v q c m ch k) =
+    call_inside d s t old len v c g st m is (reply_open s v q t (behind_syscall len old) c g.kept
+    m.answered d is ch k)
+touch_by s t old d g st is (ByFault insn len skip x held f h at w key) =
+    let both = and_parts (asks_write held.asked) _ (and_parts held.exec _ w).1 in
+    let may : opens_write old.pkru d ≡ true =
+    subst (λ (k : ℕ). opens_write old.pkru k ≡ true) key both.1 in
+    stop_inside d s old insn len skip (Fault WriteCause x) g st f h is
+    (owned (trust_of s) true old.pkru d (inl refl) is may)
 
 pub touch_law : TouchLaw
-touch_law s t old r e touch = touch_by s t old (run_good s t old r) (stands_now s t old r e) touch
+touch_law s t old d r e is touch =
+    touch_by s t old d (run_good s t old r) (stands_now s t old r e) is touch

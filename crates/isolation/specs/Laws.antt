@@ -1,34 +1,43 @@
 -- Laws of every run beside the isolation invariant. Own, after ERIM.
-use Rattle.std.specs.Prelude.{◌≡◌, ◌≢◌, ◌⊎◌, ◌↔◌, ◌<◌, ◌≤◌, ◌+◌, ◌/◌, ◌%◌, ℕ, true}
+use Rattle.std.specs.Prelude.{◌≡◌, ◌≢◌, ◌⊎◌, ◌↔◌, ◌<◌, ◌≤◌, ◌+◌, ◌/◌, ◌%◌, ◌==◌, ◌&&◌, not, ℕ, true}
 use Rattle.std.specs.Prelude.{false, Some, None, List, [], ◌∷◌, length, slice_get}
 use Rattle.erim_defs.specs.declared.machine.Thread.{Thread}
 use Rattle.erim_defs.specs.declared.machine.Rights.{Rights}
 use Rattle.erim_defs.specs.declared.machine.Entry.{Entry}
 use Rattle.erim_defs.specs.declared.machine.End.TheVariants.{Exit, Refused}
 use Rattle.erim_defs.specs.declared.found.Found.{Found}
+use Rattle.erim_defs.specs.declared.found.SeqKind.TheVariants.{Wrpkru}
 use Rattle.erim_defs.specs.declared.insn.Insn.{Insn}
 use Rattle.erim_defs.specs.declared.insn.Insn.TheVariants.{Syscall}
 use Rattle.erim_defs.specs.declared.insn.FetchOutcome.TheVariants.{Runs, Need}
 use Rattle.erim_defs.specs.Machine.Pages.{ByteMap, word, is_published, code_with, asks_exec}
-use Rattle.erim_defs.specs.Machine.Access.{Seen, stop, whole}
+use Rattle.erim_defs.specs.Machine.Access.{Seen, opens, stop, whole}
 use Rattle.erim_defs.specs.Inspection.Occurrence.{occurrence_at}
 use Rattle.erim_defs.specs.Inspection.Safe.{opens_gate, fits}
 use Rattle.erim_defs.specs.Inspection.Unsafe.{unsafe_list}
-use Rattle.erim_defs.specs.Inspection.Image.{IsAccepted}
+use Rattle.erim_defs.specs.Inspection.Image.{IsAccepted, has_domains, image_trust}
 use Rattle.erim_defs.specs.Encoding.Parts.{AreBytes}
-use Rattle.erim_defs.specs.Machine.Plan.{Plan, Ask, Give, Refuse, Call, Called, effect}
+use Rattle.erim_defs.specs.Machine.Plan.{Plan, Ask, Give, Refuse, Call, Called, Stopped, effect}
+use Rattle.erim_defs.specs.Machine.Step.{is_write_fault}
+use Rattle.erim_defs.specs.declared.machine.Access.TheVariants.{Fault}
+use Rattle.erim_defs.specs.declared.machine.Cause.TheVariants.{Write as WriteCause}
 use Rattle.erim_defs.specs.Machine.Registers.{register}
 use Rattle.erim_defs.specs.Machine.Meaning.{plan}
-use Rattle.erim_defs.specs.Machine.State.{Setup, State, code, is_inside, is_outside, trust_of}
-use Rattle.erim_defs.specs.Machine.State.{is_open}
+use Rattle.erim_defs.specs.Machine.State.{Setup, State, code, is_open, is_outside, trust_of}
+use Rattle.erim_defs.specs.Machine.Domains.{is_denied, opened, opens_domain}
+use Rattle.erim_defs.specs.Inspection.Trust.{TrustValue, in_text_of, is_domain, is_entry_of}
+use Rattle.erim_defs.specs.Inspection.Trust.{is_integrity}
+use Rattle.erim_defs.specs.Inspection.Trust.{text_key}
+use Rattle.std.specs.Prelude.{Bool}
 use Rattle.erim_defs.specs.Machine.CallResult.{Change, Answer}
 use Rattle.erim_defs.specs.Machine.Calls.{call_result}
 use Rattle.erim_defs.specs.Machine.MapCalls.{has_key}
 use Rattle.erim_defs.specs.Machine.Step.{step, sequence_of, behind_syscall, fetch}
-use Rattle.erim_defs.specs.Machine.Start.{frames_needed, is_keyed, first_state, trusted_unsafe}
+use Rattle.erim_defs.specs.Machine.Start.{frames_needed, is_keyed, first_state, page_key}
+use Rattle.erim_defs.specs.Machine.Start.{trusted_unsafe}
 use Rattle.erim_defs.specs.Machine.Replay.{replay}
 use Rattle.erim_defs.specs.Machine.Isolation.{IsStartable, IsInCheck}
-use Rattle.erim_defs.specs.Inspection.Check.{check_of, Leave, check_insn}
+use Rattle.erim_defs.specs.Inspection.Check.{check_of, closed_value, Leave, check_insn}
 
 -- ---- what can be started
 
@@ -39,17 +48,39 @@ StartLaw = (setup : Setup) → IsAccepted setup.image → AreBytes setup.image
     → trusted_unsafe setup.image ≡ None → frames_needed setup.image ≤ setup.frames
     → IsStartable setup
 
--- at the start the pages of trusted data and of trusted heaps are mapped with the trusted key 1,
--- and aren't published
+-- at the start the pages of trusted data and of trusted heaps are mapped with the key of their
+-- record, and aren't published
 pub record IsKeyedPage (setup : Setup) (q : ℕ) : Type 0 where
   pub held : Rights
   pub mapped : (first_state setup).rights q ≡ Some held
-  pub key : held.key ≡ 1
+  pub key : held.key ≡ page_key setup.image q
+  -- which is that of a domain
+  pub domain : is_domain (image_trust setup.image) held.key ≡ true
   pub hidden : held.exec ≡ false
 
 abbrev pub KeyLaw : Type 0
 KeyLaw = (setup : Setup) (q : ℕ) → IsStartable setup → is_keyed setup.image q ≡ true
     → IsKeyedPage setup q
+
+-- ---- one domain
+
+-- a trust with one domain, of key 1: a thread is open where AD of key 1 is 0, and outside where it
+-- is open and not in trusted text; an entry after a WRPKRU is enough, and the check compares with
+-- 0x55555554; only key 1 is denied, to closed threads
+pub record HasOneDomain (trust : TrustValue) : Type 0 where
+  pub closed : closed_value trust ≡ 0x55555554
+  pub opens_one : (pkru : ℕ) → is_open trust pkru ≡ opens pkru 1
+  pub outside : (t : Thread) → is_outside trust t
+      ≡ (opens t.pkru 1 && not (in_text_of trust t.rip))
+  pub entry : (next : ℕ) → opens_gate trust Wrpkru next ≡ is_entry_of trust next
+  pub check : (next : ℕ) → check_of trust Wrpkru next
+      ≡ 0x3D ∷ 0x54 ∷ 0x55 ∷ 0x55 ∷ 0x55 ∷ 0x74 ∷ 0x07 ∷ 0xB8 ∷ 0xE7 ∷ 0 ∷ 0 ∷ 0 ∷ 0x0F ∷ 0x05 ∷ []
+  pub denied : (pkru key : ℕ) → is_denied trust pkru key ≡ (key == 1 && not (opens pkru 1))
+
+-- a note of version 1 means that
+abbrev pub PlainLaw : Type 0
+PlainLaw = (image : List ℕ) → IsAccepted image → has_domains image ≡ false
+    → HasOneDomain (image_trust image)
 
 -- ---- a thread that can step
 
@@ -63,7 +94,7 @@ pub record CanStep (s : State) (t : ℕ) (old : Thread) : Type 0 where
   pub at : slice_get s.threads t ≡ Some old
   pub live : old.live ≡ true
 
--- ---- what an open thread outside trusted text does
+-- ---- what an open thread that isn't at home does
 
 -- a step of thread t from old
 pub data ChecksOn (s new : State) (t : ℕ) (old : Thread) : Type 0 where
@@ -86,15 +117,21 @@ ChecksLaw = (s new : State) (t : ℕ) (old : Thread) → CanStep s t old → s.e
 
 -- ---- who touches trusted memory
 
--- an instruction reads or writes the byte at x
-abbrev pub Reaches : Plan → Seen → ByteMap → ℕ → ℕ → Type 0
-Reaches (Ask a n k) seen bytes pkru x = (stop seen false pkru a n ≡ None)
-    × (((a ≤ x) × (x < a + n)) ⊎ Reaches (k (word bytes a n)) seen bytes pkru x)
-Reaches (Give t None) seen bytes pkru x = ⊥
-Reaches (Give t (Some w)) seen bytes pkru x = (stop seen true pkru w.addr w.count ≡ None)
-    × (w.addr ≤ x) × (x < w.addr + w.count)
-Reaches Refuse seen bytes pkru x = ⊥
-Reaches Call seen bytes pkru x = ⊥
+-- an instruction reads the byte at x, or writes it
+abbrev pub Reaches : Bool → Plan → Seen → ByteMap → ℕ → ℕ → Type 0
+Reaches write (Ask a n k) seen bytes pkru x = (stop seen false pkru a n ≡ None)
+    × (((write ≡ false) × (a ≤ x) × (x < a + n)) ⊎ Reaches write (k
+    (word bytes a n)) seen bytes pkru
+    x)
+Reaches write (Give t None) seen bytes pkru x = ⊥
+Reaches write (Give t (Some w)) seen bytes pkru x = (stop seen true pkru w.addr w.count ≡ None)
+    × (write ≡ true) × (w.addr ≤ x) × (x < w.addr + w.count)
+Reaches write Refuse seen bytes pkru x = ⊥
+Reaches write Call seen bytes pkru x = ⊥
+
+-- reading the pages of an integrity domain isn't touching
+abbrev pub Counts : TrustValue → Bool → ℕ → Type 0
+Counts trust write domain = (write ≡ true) ⊎ (is_integrity trust domain ≡ false)
 
 -- a call that isn't refused changes the page q, or a byte of it
 pub data Changes (s : State) (c : Change) (q : ℕ) : Type 0 where
@@ -110,27 +147,43 @@ pub record MakesCall (s : State) (t : ℕ) (old : Thread) (value : ℕ) (change 
   pub called : effect (plan insn len old) (whole s.rights) s.bytes old.pkru old.rip ≡ Called
   pub answered : call_result s t (behind_syscall len old) ≡ Answer value change
 
--- a step touches memory with the trusted key 1: by its instruction, by what write reads, by what a
--- call changes
-pub data Touches (s : State) (t : ℕ) (old : Thread) : Type 0 where
-  ByInsn : (insn : Insn) (len skip x : ℕ) → fetch (code s) old.rip ≡ Runs insn len skip
-      → Reaches (plan insn len old) (whole s.rights) s.bytes old.pkru x
-      → has_key (s.rights (x / 4096)) 1 ≡ true → Touches s t old
+-- a step touches memory of a domain: by its instruction, by what write reads, by what a call
+-- changes, by a write fault
+pub data Touches (s : State) (t : ℕ) (old : Thread) (domain : ℕ) : Type 0 where
+  ByInsn : (write : Bool) (insn : Insn) (len skip x : ℕ)
+      → fetch (code s) old.rip ≡ Runs insn len skip
+      → Reaches write (plan insn len old) (whole s.rights) s.bytes old.pkru x
+      → Counts (trust_of s) write domain
+      → has_key (s.rights (x / 4096)) domain ≡ true → Touches s t old domain
   ByWrite : (len value x : ℕ) (c : Change) → MakesCall s t old value c len → register old 0 ≡ 1
       → register old 6 ≤ x → x < register old 6 + register old 2
-      → has_key (s.rights (x / 4096)) 1 ≡ true
-      → Touches s t old
+      → Counts (trust_of s) false domain
+      → has_key (s.rights (x / 4096)) domain ≡ true
+      → Touches s t old domain
   ByCall : (len value q : ℕ) (c : Change) → MakesCall s t old value c len → Changes s c q
-      → (has_key (s.rights q) 1 ≡ true) ⊎ (has_key (c.rights q) 1 ≡ true) → Touches s t old
+      → (has_key (s.rights q) domain ≡ true) ⊎ (has_key (c.rights q) domain ≡ true)
+      → Touches s t old domain
+  -- a write fault, which may take the publication of the page back
+  ByFault : (insn : Insn) (len skip x : ℕ) (held : Rights)
+      → fetch (code s) old.rip ≡ Runs insn len skip
+      → effect (plan insn len old) (whole s.rights) s.bytes old.pkru old.rip
+      ≡ Stopped (Fault WriteCause x)
+      → s.rights (x / 4096) ≡ Some held → is_write_fault held old.pkru ≡ true
+      → held.key ≡ domain → Touches s t old domain
 
--- before an escape, a thread that is open in trusted text alone
+-- before an escape, a thread that opened the domain, in its text, alone
+abbrev pub IsOwner : TrustValue → Thread → ℕ → Type 0
+IsOwner trust t domain =
+    (opens_domain trust t.pkru domain ≡ true) × (text_key trust t.rip ≡ domain)
+
 abbrev pub TouchLaw : Type 0
-TouchLaw = (s : State) (t : ℕ) (old : Thread) → CanStep s t old → s.escape ≡ None → Touches s t old
-    → is_inside (trust_of s) old ≡ true
+TouchLaw = (s : State) (t : ℕ) (old : Thread) (domain : ℕ) → CanStep s t old → s.escape ≡ None
+    → is_domain (trust_of s) domain ≡ true → Touches s t old domain
+    → IsOwner (trust_of s) old domain
 
 -- ---- how a thread opens
 
--- thread i goes from closed, a, to open, b, in a step of thread t
+-- thread i comes to open a domain that it didn't open, from a to b, in a step of thread t
 pub record Opened (s : State) (t i : ℕ) (a b : Thread) : Type 0 where
   pub own : i ≡ t
   pub insn : Insn
@@ -146,9 +199,10 @@ pub record Opened (s : State) (t i : ℕ) (a b : Thread) : Type 0 where
       ⊎ (fits (code s) b.rip (check_of (trust_of s) origin.kind b.rip) ≡ true)
 
 abbrev pub OpenLaw : Type 0
-OpenLaw = (s new : State) (t i : ℕ) (a b old : Thread) → CanStep s t old → step t s ≡ Some new
-    → slice_get s.threads i ≡ Some a → slice_get new.threads i ≡ Some b
-    → is_open (trust_of s) a.pkru ≡ false → is_open (trust_of s) b.pkru ≡ true → Opened s t i a b
+OpenLaw = (s new : State) (t i domain : ℕ) (a b old : Thread) → CanStep s t old
+    → step t s ≡ Some new → slice_get s.threads i ≡ Some a → slice_get new.threads i ≡ Some b
+    → opens_domain (trust_of s) a.pkru domain ≡ false
+    → opens_domain (trust_of s) b.pkru domain ≡ true → Opened s t i a b
 
 -- ---- a thread that is made
 
@@ -163,15 +217,14 @@ pub record IsMade (s new : State) (t number : ℕ) (old u : Thread) : Type 0 whe
   pub clone : register old 0 ≡ 56
   -- the next number
   pub next : number ≡ length s.threads
-  -- its maker behind that step: it stands where its maker stands, and is open exactly where its
-  -- maker is
+  -- its maker behind that step: it stands where its maker stands, and opens what its maker opens
   pub maker : Thread
   pub at : slice_get new.threads t ≡ Some maker
   pub rip : u.rip ≡ maker.rip
-  pub key : is_open (trust_of new) u.pkru ≡ is_open (trust_of new) maker.pkru
+  pub key : opened (trust_of new) u.pkru ≡ opened (trust_of new) maker.pkru
   pub live : u.live ≡ true
   pub from : u.origin ≡ maker.origin
-  -- none where it is closed or in trusted text
+  -- none where it is closed or at home
   pub origin : is_outside (trust_of new) u ≡ false → u.origin ≡ None
   -- as it is until an escape
   pub inside : new.escape ≡ None → is_outside (trust_of new) u ≡ false
@@ -224,14 +277,15 @@ pub record IsLawful (t : ℕ) (s new : State) : Type 0 where
   pub old : Thread
   pub at : slice_get s.threads t ≡ Some old
   pub live : old.live ≡ true
-  -- before an escape, who touches trusted memory is open in trusted text
-  pub touches : s.escape ≡ None → Touches s t old → is_inside (trust_of s) old ≡ true
-  -- before an escape, what an open thread outside trusted text does
+  -- before an escape, who touches memory of a domain opened it and stands in its text
+  pub touches : (domain : ℕ) → s.escape ≡ None → is_domain (trust_of s) domain ≡ true
+      → Touches s t old domain → IsOwner (trust_of s) old domain
+  -- before an escape, what an open thread that isn't at home does
   pub checks : s.escape ≡ None → is_outside (trust_of s) old ≡ true → ChecksOn s new t old
-  -- how a thread that was there comes to be open
-  pub opens : (i : ℕ) (a b : Thread) → slice_get s.threads i ≡ Some a
-      → slice_get new.threads i ≡ Some b → is_open (trust_of s) a.pkru ≡ false
-      → is_open (trust_of s) b.pkru ≡ true → Opened s t i a b
+  -- how a thread that was there comes to open a domain
+  pub opens : (i domain : ℕ) (a b : Thread) → slice_get s.threads i ≡ Some a
+      → slice_get new.threads i ≡ Some b → opens_domain (trust_of s) a.pkru domain ≡ false
+      → opens_domain (trust_of s) b.pkru domain ≡ true → Opened s t i a b
   -- how a thread is made
   pub makes : (number : ℕ) (u : Thread) → slice_get s.threads number ≡ None
       → slice_get new.threads number ≡ Some u → IsMade s new t number old u

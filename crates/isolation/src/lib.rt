@@ -2,16 +2,16 @@
 //!
 //! Each function here is a law: it does nothing, and its contract is proved. `always_kept` says
 //! that every state of every run of an image that can be started keeps `IsKept` of `erim_defs`; the
-//! others say what that gives until the first escape: where an open thread stands, that only
-//! trusted text touches pages with the trusted key, what a new thread is, which pages are
-//! published, and which are refused. `erim_process` carries them into the contract of
+//! others say what that gives until the first escape: where an open thread stands, that only the
+//! text of a domain touches its pages, what a new thread is, which pages are published, and which
+//! are refused. `erim_process` carries them into the contract of
 //! `Process::setup`, and `erim_plain` into the clause of `run`. They rest on two laws of decoding,
 //! of `x86_decode`: one encoding, prefix-free.
 #![tactic(auto)]
 
 ghost use Rattle.erim_defs.specs.Machine.Isolation.{AlwaysKept};
-ghost use Rattle.isolation.specs.Laws.{ChecksLaw, KeyLaw, LawfulLaw, MadeLaw, OpenLaw, PublishLaw};
-ghost use Rattle.isolation.specs.Laws.{RefuseLaw, StartLaw, TouchLaw};
+ghost use Rattle.isolation.specs.Laws.{ChecksLaw, KeyLaw, LawfulLaw, MadeLaw, OpenLaw, PlainLaw};
+ghost use Rattle.isolation.specs.Laws.{PublishLaw, RefuseLaw, StartLaw, TouchLaw};
 
 /// The isolation invariant holds in every state of every run.
 pub fn always_kept()
@@ -23,30 +23,38 @@ pub fn startable()
     ensures { StartLaw }
 {}
 
-/// At the start, trusted data and trusted heaps are mapped with the trusted key.
+/// At the start, trusted data and trusted heaps are mapped with the key of their record, which is a
+/// domain.
 pub fn keyed()
     ensures { KeyLaw }
 {}
 
-/// Before an escape, each step of an open thread outside trusted text is an exec fault, the next
-/// instruction of its check, or the end of the process.
+/// A trust note of version 1 means one domain, of key 1.
+pub fn plain()
+    ensures { PlainLaw }
+{}
+
+/// Before an escape, each step of a thread that is open and not at home is an exec fault, the next
+/// instruction of its check, or the end of the process. A thread is at home in the text of a domain
+/// where it opens no other.
 pub fn checks_on()
     ensures { ChecksLaw }
 {}
 
-/// Before an escape, only a thread that is open in trusted text touches trusted memory.
+/// Before an escape, only a thread that opens a domain and stands in its text touches its memory.
+/// Reading the pages of an integrity domain isn't touching.
 pub fn touched()
     ensures { TouchLaw }
 {}
 
-/// A thread opens only by a WRPKRU or an XRSTOR that occurs in the code, and then stands at an
-/// entry or before the check.
+/// A thread comes to open a domain only by a WRPKRU or an XRSTOR that occurs in the code, and then
+/// stands at an entry, where that is enough, or before the check.
 pub fn opened()
     ensures { OpenLaw }
 {}
 
-/// A thread is made by the system call clone alone. It stands where its maker stands, and is open
-/// exactly where its maker is; before an escape it is closed or in trusted text, and has no origin.
+/// A thread is made by the system call clone alone. It stands where its maker stands, and opens
+/// what its maker opens; before an escape it is closed or at home, and has no origin.
 pub fn made()
     ensures { MadeLaw }
 {}

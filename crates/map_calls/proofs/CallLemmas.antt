@@ -1,6 +1,8 @@
 -- What a call sees, and how its refusals follow each other.
-use Rattle.std.proofs.Common.{◌≡◌, ℕ, ◌<◌, ◌+◌, ◌%◌, ◌==◌, ◌&&◌, ◌||◌, not, nat_lt, Bool, true, false}
-use Rattle.std.proofs.Common.{Option, Some, None, is_none, List, refl, sym, ap, ◌∙◌, arith, inl, inr}
+use Rattle.std.proofs.Common.{◌≡◌, ℕ, ◌<◌, ◌+◌, ◌%◌, ◌==◌, ◌&&◌, ◌||◌, not, nat_lt, Bool, true}
+use Rattle.std.proofs.Common.{false}
+use Rattle.std.proofs.Common.{Option, Some, None, is_none, List, refl, sym, ap, ◌∙◌, arith, inl}
+use Rattle.std.proofs.Common.{inr}
 use Rattle.std.proofs.lemmas.Bool.{cases_lt, lt-ltb, le-ltb}
 use Rattle.std.specs.List.{list_any}
 use Rattle.erim_defs.specs.declared.linux.TheConstants.{EPERM, EAGAIN, EINVAL, ENOMEM}
@@ -210,11 +212,13 @@ protect_is s t addr len prot key guarded trusted unmapped lost d =
 
 -- ---- the tests by what a call sees
 
-pub closed_seen : (s : State) (t : Thread) (pkru : ℕ) (key : Option ℕ) (b : Bool) → t.pkru ≡ pkru
-    → b ≡ asks_trusted pkru key → is_trusted_key s t key ≡ b
-closed_seen s t pkru None b h tested = sym tested
-closed_seen s t pkru (Some key) b h tested =
-    ap (λ x. asks_trusted x (Some key)) h ∙ sym tested
+pub closed_seen : (s : State) (t : Thread) (trust : TrustValue) (pkru : ℕ) (key : Option ℕ)
+    (b : Bool) → trust_of s ≡ trust → t.pkru ≡ pkru
+    → b ≡ asks_trusted trust pkru key → is_trusted_key s t key ≡ b
+closed_seen s t trust pkru None b e h tested = sym tested
+closed_seen s t trust pkru (Some key) b e h tested =
+    ap (λ x. asks_trusted x t.pkru (Some key)) e ∙ ap (λ x. asks_trusted trust x (Some key)) h
+    ∙ sym tested
 
 pub holes_seen : (s : State) (r span : PageRange) (rights : RightsMap) (b : Bool)
     → s.rights ≡ rights → span ≡ r → b ≡ any_page span (λ q. is_none (rights q))

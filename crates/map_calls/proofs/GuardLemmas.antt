@@ -12,9 +12,9 @@ use Rattle.erim_defs.specs.declared.page.TheConstants.{TRUSTED_KEY}
 use Rattle.erim_defs.specs.Inspection.Trust.{TrustValue, spans}
 use Rattle.erim_defs.specs.Machine.Access.{opens}
 use Rattle.erim_defs.specs.Machine.MapCalls.{any_page, PageRange, is_pinned, has_byte_on}
-use Rattle.erim_defs.specs.Machine.MapCalls.{has_key}
+use Rattle.erim_defs.specs.Machine.Least.{any_below}
 use Rattle.erim_defs.specs.Machine.Pages.{RightsMap}
-use Rattle.map_calls.specs.Guards.{meets_span, pins, protects}
+use Rattle.map_calls.specs.Guards.{denies, meets_span, pins, protects}
 use Rattle.map_calls.proofs.RangeLemmas.{any_page_none, any_page_same, any_below_either}
 
 -- ---- trusted text
@@ -27,15 +27,14 @@ texts_any r (t ∷ ts) =
     (λ k. list_any (spans (4096 * (r.first + k))) ts)
     ∙ ap (λ b. meets_span r t || b) (texts_any r ts)
 
--- whether a range is protected, by the three tests
+-- whether a range is protected, by the two tests
 pub protects_by : (trust : TrustValue) (rights : RightsMap) (pkru : ℕ) (r : PageRange)
-    (text out keyed : Bool) → text ≡ list_any (meets_span r) trust.texts
-    → out ≡ opens pkru TRUSTED_KEY → keyed ≡ any_page r (λ q. has_key (rights q) TRUSTED_KEY)
-    → (text || (not out && keyed)) ≡ protects trust rights pkru r
-protects_by trust rights pkru r text out keyed is_text is_out is_keyed =
-    rw (is_text, is_out, is_keyed)
-    (ap (λ b. b || (not (opens pkru TRUSTED_KEY)
-    && any_page r (λ q. has_key (rights q) TRUSTED_KEY))) (sym (texts_any r trust.texts)))
+    (text keyed : Bool) → text ≡ list_any (meets_span r) trust.texts
+    → keyed ≡ any_page r (λ q. denies trust pkru (rights q))
+    → (text || keyed) ≡ protects trust rights pkru r
+protects_by trust rights pkru r text keyed is_text is_keyed =
+    rw (is_text, is_keyed)
+    (ap (λ b. b || any_page r (λ q. denies trust pkru (rights q))) (sym (texts_any r trust.texts)))
 
 ceil_le : (x q : ℕ) → nat_le (div_ceil x 4096) q ≡ nat_le x (4096 * q)
 ceil_le x q = grind (arith, nat_tests)
@@ -91,3 +90,17 @@ origin_pages r o sum last user is_sum is_last =
     let e : last ≡ min (o.at + o.len) (2 ^ 64 - 1) - 1 = omega arith in
     ap (λ b. nat_le (o.at / 4096) q && b) (last_capped (o.at + o.len) q (omega arith)
     ∙ ap (λ x. nat_lt q (x / 4096 + 1)) (sym e)))
+
+-- one page
+one_page : (test : ℕ → Bool) (q : ℕ) → any_page (record { first = q; count = 1 }) test ≡ test q
+unfolding any_below
+one_page test q = let here : q + 0 ≡ q = omega arith in rw here (by (test q))
+  where
+    by : (b : Bool) → (b || false) ≡ b
+    by true = refl
+    by false = refl
+
+pub one_pinned : (ts : List Thread) (q : ℕ)
+    → list_any (pins (record { first = q; count = 1 })) ts ≡ is_pinned ts q
+one_pinned ts q =
+    sym (pins_any (record { first = q; count = 1 }) ts) ∙ one_page (is_pinned ts) q

@@ -11,7 +11,8 @@ use Rattle.std.proofs.lemmas.Nat.Bits.{bit_at_xor, bit_at-lt, bit_at-pow_same, b
 use Rattle.erim_defs.specs.Bits.{has_bit}
 use Rattle.erim_defs.specs.declared.machine.Keys.{Keys}
 use Rattle.erim_defs.specs.declared.machine.Thread.{Thread}
-use Rattle.erim_defs.specs.Machine.State.{State}
+use Rattle.erim_defs.specs.Machine.State.{State, trust_of}
+use Rattle.erim_defs.specs.Inspection.Trust.{TrustValue, is_domain}
 use Rattle.erim_defs.specs.Machine.CallResult.{CallResult, Refusal, Answer, no_change}
 use Rattle.erim_defs.specs.Machine.MapCalls.{with_key_rights, alloc_key}
 use Rattle.erim_defs.specs.Machine.Least.{least_below}
@@ -158,39 +159,52 @@ alloc_some s t keys pkru flags rights key new h z l e off n =
     ∙ ap (λ (m : ℕ). given (λ k. has_bit m k) t.pkru) (sym n)
     ∙ ap (λ (p : ℕ). given (λ k. has_bit new k) p) h.rights
 
-freeable_in : (s : State) (t : Thread) (keys : Keys) (pkru k : ℕ) → HasKeys s t keys pkru
-    → (nat_lt 1 k && is_taken s k) ≡ is_freeable keys k
-freeable_in s t keys pkru k h =
-    ap (λ (f : ℕ → Bool). nat_lt 1 k && (nat_lt k 16 && f k)) h.taken
+freeable_in : (s : State) (t : Thread) (trust : TrustValue) (keys : Keys) (pkru k : ℕ)
+    → HasKeys s t keys pkru → trust_of s ≡ trust
+    → (k == 0 || (is_domain (trust_of s) k || not (is_taken s k))) ≡ not (is_freeable trust keys k)
+freeable_in s t trust keys pkru k h e =
+    by (k == 0) (is_domain (trust_of s) k) (is_taken s k)
+    ∙ ap (λ (x : TrustValue). not ((not (k == 0) && not (is_domain x k)) && is_taken s k)) e
+    ∙ ap (λ (f : ℕ → Bool). not ((not (k == 0) && not (is_domain trust k)) && (nat_lt k 16 && f k)))
+    h.taken
+  where
+    by : (a b c : Bool) → (a || (b || not c)) ≡ not ((not a && not b) && c)
+    by true b c = refl
+    by false true c = refl
+    by false false c = refl
 
-pub free_invalid : (s : State) (t : Thread) (keys : Keys) (pkru key : ℕ) → HasKeys s t keys pkru
-    → is_freeable keys (key % 2 ^ 32) ≡ false → pkey_free_result s t key ≡ Refusal 22
+pub free_invalid : (s : State) (t : Thread) (trust : TrustValue) (keys : Keys) (pkru key : ℕ)
+    → HasKeys s t keys pkru → trust_of s ≡ trust
+    → is_freeable trust keys (key % 2 ^ 32) ≡ false → pkey_free_result s t key ≡ Refusal 22
 unfolding pkey_free_result
-free_invalid s t keys pkru key h b =
-    rw (freeable_in s t keys pkru (key % 2 ^ 32) h ∙ b) refl
+free_invalid s t trust keys pkru key h e b =
+    rw (freeable_in s t trust keys pkru (key % 2 ^ 32) h e ∙ ap not b) refl
 
-free_valid : (s : State) (t : Thread) (keys : Keys) (pkru key : ℕ) → HasKeys s t keys pkru
-    → is_freeable keys (key % 2 ^ 32) ≡ true
+free_valid : (s : State) (t : Thread) (trust : TrustValue) (keys : Keys) (pkru key : ℕ)
+    → HasKeys s t keys pkru → trust_of s ≡ trust
+    → is_freeable trust keys (key % 2 ^ 32) ≡ true
     → pkey_free_result s t key ≡ Answer 0 (let c = no_change s t in record c {
       keys = λ j. not (j == key % 2 ^ 32) && s.keys j;
     })
 unfolding pkey_free_result
-free_valid s t keys pkru key h b =
-    rw (freeable_in s t keys pkru (key % 2 ^ 32) h ∙ b) refl
+free_valid s t trust keys pkru key h e b =
+    rw (freeable_in s t trust keys pkru (key % 2 ^ 32) h e ∙ ap not b) refl
 
-pub free_some : (s : State) (t : Thread) (keys : Keys) (pkru key new : ℕ) → HasKeys s t keys pkru
-    → is_freeable keys (key % 2 ^ 32) ≡ true
+pub free_some : (s : State) (t : Thread) (trust : TrustValue) (keys : Keys) (pkru key new : ℕ)
+    → HasKeys s t keys pkru → trust_of s ≡ trust
+    → is_freeable trust keys (key % 2 ^ 32) ≡ true
     → new ≡ bit_xor keys.taken (2 ^ (key % 2 ^ 32))
     → pkey_free_result s t key
     ≡ Answer 0 (let c = no_change s t in record c { keys = key_map (record { taken = new }) })
-free_some s t keys pkru key new h b n =
+free_some s t trust keys pkru key new h e b n =
     let given : (ℕ → Bool) → CallResult = λ f.
     Answer 0 (let c = no_change s t in record c { keys = f }) in
     let on = (and_parts _ _ (and_parts _ _ b).1).1 in
-    free_valid s t keys pkru key h b
+    free_valid s t trust keys pkru key h e b
     ∙ ap (λ (f : ℕ → Bool). given (λ j. not (j == key % 2 ^ 32) && f j)) h.taken
     ∙ ap given (taken_without keys.taken (key % 2 ^ 32) on)
     ∙ ap (λ (m : ℕ). given (λ k. has_bit m k)) (sym n)
 
-pub freeable_low : (keys : Keys) (key : ℕ) → is_freeable keys key ≡ true → key < 16
-freeable_low keys key b = ltb-true _ _ (and_parts _ _ (and_parts _ _ b).1).0
+pub freeable_low : (trust : TrustValue) (keys : Keys) (key : ℕ)
+    → is_freeable trust keys key ≡ true → key < 16
+freeable_low trust keys key b = ltb-true _ _ (and_parts _ _ (and_parts _ _ b).1).0

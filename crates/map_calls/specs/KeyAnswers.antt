@@ -1,5 +1,6 @@
 -- What a call on protection keys answers. Own.
-use Rattle.std.specs.Prelude.{◌≡◌, ℕ, ◌&&◌, nat_lt, not, Bool, Option, Result, Ok, Err}
+use Rattle.erim_defs.specs.Inspection.Trust.{TrustValue, is_domain}
+use Rattle.std.specs.Prelude.{◌≡◌, ℕ, ◌==◌, ◌&&◌, nat_lt, not, Bool, Option, Result, Ok, Err}
 use Rattle.erim_defs.specs.Bits.{has_bit}
 use Rattle.erim_defs.specs.declared.machine.Keys.{Keys}
 use Rattle.erim_defs.specs.declared.machine.Thread.{Thread}
@@ -14,9 +15,10 @@ key_map keys = λ k. has_bit keys.taken k
 abbrev pub least_free : Keys → Option ℕ
 least_free keys = least_below 16 (λ key. nat_lt 1 key && not (key_map keys key))
 
--- a taken key that a program may free
-abbrev pub is_freeable : Keys → ℕ → Bool
-is_freeable keys key = nat_lt 1 key && (nat_lt key 16 && key_map keys key)
+-- a taken key that a program may free: no domain
+abbrev pub is_freeable : TrustValue → Keys → ℕ → Bool
+is_freeable trust keys key =
+    (not (key == 0) && not (is_domain trust key)) && (nat_lt key 16 && key_map keys key)
 
 -- a state with these keys, and a caller with this PKRU
 pub record HasKeys (s : State) (t : Thread) (keys : Keys) (pkru : ℕ) : Type 0 where

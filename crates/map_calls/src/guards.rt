@@ -1,19 +1,18 @@
-//! What a call may not touch: trusted text, pages of the trusted key for a closed caller, and pages
-//! that a thread's origin pins.
+//! What a call may not touch: trusted text, pages of domains that the caller doesn't open, and
+//! pages that a thread's origin pins.
 
-ghost use Rattle.std.specs.Prelude.{◌≡◌};
+ghost use Rattle.std.specs.Prelude.{◌≡◌, ◌<◌, ◌^◌};
 ghost use Rattle.std.specs.List.{list_any};
-ghost use Rattle.erim_defs.specs.Machine.MapCalls.{any_page, has_byte_on, has_key};
-ghost use Rattle.map_calls.specs.Guards.{meets_span, protects, pins};
+ghost use Rattle.erim_defs.specs.Machine.MapCalls.{any_page, has_byte_on, is_pinned};
+ghost use Rattle.map_calls.specs.Guards.{denies, meets_span, protects, pins};
 ghost use Rattle.map_calls.specs.Ranges.{pages_of};
 ghost use Rattle.page_store.specs.Answers.{rights_in};
 
 use crate::range::PageSpan;
 use crate::walk::next_in;
-use erim_defs::page::{PAGE_SIZE, TRUSTED_KEY};
+use erim_defs::page::PAGE_SIZE;
 use erim_defs::{Found, Span, Thread, Trust};
 use page_store::{Memory, Pages};
-use thread_state::opens;
 
 /// Is the first byte of a page of the range in a range of addresses?
 fn meets_span(range: &PageSpan, span: &Span) -> bool
@@ -30,24 +29,24 @@ fn has_text(trust: &Trust, range: &PageSpan) -> bool
     trust.texts().iter().any(|text| meets_span(range, text))
 }
 
-/// Has a page the trusted key?
-fn is_keyed<P: Pages>(pages: &P, page: u64) -> bool
-    ensures { result ≡ has_key (rights_in (P.seen pages.now) page) TRUSTED_KEY }
+/// Has a page the key of a domain that isn't open?
+fn is_keyed<P: Pages>(pages: &P, trust: &Trust, pkru: u32, page: u64) -> bool
+    ensures { result ≡ denies trust.now pkru (rights_in (P.seen pages.now) page) }
 {
     match pages.rights(page) {
-        Some(rights) => rights.key == TRUSTED_KEY,
+        Some(rights) => trust.is_denied(pkru, rights.key),
         None => false,
     }
 }
 
-/// Has the range a page of the trusted key?
-fn has_keyed<P: Pages>(pages: &P, range: &PageSpan) -> bool
+/// Has the range a page of a domain that isn't open?
+fn has_keyed<P: Pages>(pages: &P, trust: &Trust, pkru: u32, range: &PageSpan) -> bool
     ensures { result ≡ any_page (pages_of range.now)
-        (λ q. has_key (rights_in (P.seen pages.now) q) TRUSTED_KEY) }
+        (λ q. denies trust.now pkru (rights_in (P.seen pages.now) q)) }
 {
     let mut from = range.first;
     while let Some(page) = next_in(pages, from, range.end()) {
-        if is_keyed(pages, page) {
+        if is_keyed(pages, trust, pkru, page) {
             return true;
         }
         from = page + 1;
@@ -59,7 +58,7 @@ fn has_keyed<P: Pages>(pages: &P, range: &PageSpan) -> bool
 pub(crate) fn is_protected<P: Pages>(pages: &P, trust: &Trust, pkru: u32, range: &PageSpan) -> bool
     ensures { result ≡ protects trust.now (rights_in (P.seen pages.now)) pkru (pages_of range.now) }
 {
-    has_text(trust, range) || (!opens(pkru, TRUSTED_KEY) && has_keyed(pages, range))
+    has_text(trust, range) || has_keyed(pages, trust, pkru, range)
 }
 
 /// Has the range a page with a byte of an origin?
@@ -88,4 +87,18 @@ pub(crate) fn has_pin(threads: &[Thread], range: &PageSpan) -> bool
     ensures { result ≡ list_any (pins (pages_of range.now)) threads.now }
 {
     threads.iter().any(|thread| pins(thread, range))
+}
+
+/// Is the page pinned?
+pub fn is_pinned(threads: &[Thread], page: u64) -> bool
+    requires { page < 2 ^ 35 }
+    ensures { result ≡ is_pinned threads.now page }
+{
+    has_pin(
+        threads,
+        &PageSpan {
+            first: page,
+            count: 1,
+        },
+    )
 }

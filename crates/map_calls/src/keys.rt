@@ -3,13 +3,13 @@
 ghost use Rattle.std.specs.Prelude.{◌≡◌, ◌<◌, ◌^◌, ◌*◌, ◌%◌, false, IfErr, IfSome, OnErr};
 ghost use Rattle.erim_defs.specs.Bits.{has_bit};
 ghost use Rattle.erim_defs.specs.declared.machine.Thread.{Thread};
-ghost use Rattle.erim_defs.specs.Machine.State.{State};
+ghost use Rattle.erim_defs.specs.Machine.State.{State, trust_of};
 ghost use Rattle.erim_defs.specs.Machine.MapCalls.{with_key_rights, pkey_alloc_result};
 ghost use Rattle.erim_defs.specs.Machine.MapCalls.{pkey_free_result};
 ghost use Rattle.map_calls.specs.KeyAnswers.{HasKeys, is_freeable, keyed, least_free};
 
-use erim_defs::Keys;
 use erim_defs::linux::{EINVAL, ENOSPC, KEYS};
+use erim_defs::{Keys, Trust};
 
 /// The lowest key that a program may allocate: 0 and 1 are always taken.
 const LOWEST_KEY: u8 = 2;
@@ -77,22 +77,26 @@ pub fn pkey_alloc(keys: &mut Keys, pkru: &mut u32, flags: u64, rights: u64) -> R
     }
 }
 
-/// Is this a key that can be freed: a taken one, but 0 and 1? It stands in the low 32 bits.
-fn is_freeable(keys: &Keys, key: u64) -> bool
-    ensures { result ≡ is_freeable keys.now (key % 2 ^ 32) }
+/// Is this a key that can be freed: a taken one, but 0 and domains? It stands in the low 32 bits.
+fn is_freeable(trust: &Trust, keys: &Keys, key: u64) -> bool
+    ensures { result ≡ is_freeable trust.now keys.now (key % 2 ^ 32) }
 {
     let key = key % (1 << 32);
-    key >= u64::from(LOWEST_KEY) && key < u64::from(KEYS) && is_taken(keys, key as u8)
+    if key >= u64::from(KEYS) {
+        return false;
+    }
+    key != 0 && !trust.is_domain(key as u8) && is_taken(keys, key as u8)
 }
 
 /// pkey_free(2): frees a key. The keys of pages and PKRU stay as they are.
-pub fn pkey_free(keys: &mut Keys, key: u64) -> Result<u64, u16>
+pub fn pkey_free(keys: &mut Keys, trust: &Trust, key: u64) -> Result<u64, u16>
     ensures answer { (s : State) (t : Thread) → HasKeys s t keys.old t.pkru
+        → trust_of s ≡ trust.now
         → pkey_free_result s t key ≡ keyed s t keys.new t.pkru result }
     ensures keys { OnErr result (keys.new ≡ keys.old) }
     ensures error { IfErr result (λ error. 0 < error) }
 {
-    if !is_freeable(keys, key) {
+    if !is_freeable(trust, keys, key) {
         return Err(EINVAL);
     }
     keys.taken ^= 1 << (key % (1 << 32));

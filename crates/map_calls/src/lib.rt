@@ -14,6 +14,7 @@ mod rights;
 mod unmapping;
 mod walk;
 
+pub use guards::is_pinned;
 pub use keys::{pkey_alloc, pkey_free};
 pub use mapping::mmap;
 pub use protection::{mprotect, pkey_mprotect};

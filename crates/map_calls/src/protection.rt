@@ -20,17 +20,16 @@ use crate::range::PageSpan;
 use crate::rights::asked_anew;
 use crate::walk::next_in;
 use erim_defs::linux::{EAGAIN, EINVAL, ENOMEM, EPERM, PROT_EXEC};
-use erim_defs::page::TRUSTED_KEY;
 use erim_defs::{Keys, Thread, Trust};
 use page_store::{Memory, Pages};
-use thread_state::opens;
 
-/// Does a closed caller ask for the trusted key?
-fn asks_trusted(pkru: u32, key: Option<u8>) -> bool
-    ensures { result ≡ asks_trusted pkru key }
+/// Does a caller ask for a domain that isn't open to it?
+fn asks_trusted(trust: &Trust, pkru: u32, key: Option<u8>) -> bool
+    requires { IfSome key (λ k. k < 16) }
+    ensures { result ≡ asks_trusted trust.now pkru key }
 {
     match key {
-        Some(key) => key == TRUSTED_KEY && !opens(pkru, TRUSTED_KEY),
+        Some(key) => trust.is_denied(pkru, key),
         None => false,
     }
 }
@@ -111,7 +110,7 @@ fn protect<P: Pages>(
     if is_protected(pages, trust, pkru, &range) {
         return Err(EPERM);
     }
-    if asks_trusted(pkru, key) {
+    if asks_trusted(trust, pkru, key) {
         return Err(EPERM);
     }
     if has_unmapped(pages, &range) {

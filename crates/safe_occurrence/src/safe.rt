@@ -4,31 +4,24 @@ ghost use Rattle.std.specs.Prelude.{◌≡◌, ◌+◌, ◌<◌, ◌≤◌, ◌^
 ghost use Rattle.erim_defs.specs.Inspection.Code.{laid_at, allows};
 ghost use Rattle.erim_defs.specs.Inspection.Occurrence.{occurrence_at};
 ghost use Rattle.erim_defs.specs.Inspection.Safe.{fits, opens_gate, is_safe};
-ghost use Rattle.erim_defs.specs.Inspection.Check.{check_of};
+ghost use Rattle.erim_defs.specs.Inspection.Check.{check_of, check_to};
 ghost use Rattle.erim_defs.specs.Inspection.Trust.{TrustValue};
 
 use erim_defs::{Found, SeqKind, Trust};
-
-/// What has to follow a WRPKRU: `cmp eax, 0x55555554`, `je` over the rest, `mov eax, 231`,
-/// `syscall`.
-const WRPKRU_CHECK: [u8; 14] = [
-    0x3D, 0x54, 0x55, 0x55, 0x55, 0x74, 0x07, 0xB8, 0xE7, 0x00, 0x00, 0x00, 0x0F, 0x05,
-];
 
 /// What has to follow an XRSTOR: `bt eax, 9`, `jae` over the rest, `mov eax, 231`, `syscall`.
 const XRSTOR_CHECK: [u8; 13] = [
     0x0F, 0xBA, 0xE0, 0x09, 0x73, 0x07, 0xB8, 0xE7, 0x00, 0x00, 0x00, 0x0F, 0x05,
 ];
 
-/// The check that has to follow a sequence, whatever address is behind it.
-#[tactic(auto, unfolding(erim_defs::specs::Inspection::Check::check_of))]
-fn check_of(kind: SeqKind) -> &'static [u8]
-    ensures { (trust : TrustValue) (next : ℕ) → result.now ≡ check_of trust kind next }
+/// What has to follow a WRPKRU: `cmp eax, value`, `je` over the rest, `mov eax, 231`, `syscall`.
+fn wrpkru_check(value: u32) -> [u8; 14]
+    ensures { result ≡ check_to value }
 {
-    match kind {
-        SeqKind::Wrpkru => &WRPKRU_CHECK,
-        SeqKind::Xrstor => &XRSTOR_CHECK,
-    }
+    let [low, second, third, high] = value.to_le_bytes();
+    [
+        0x3D, low, second, third, high, 0x74, 0x07, 0xB8, 0xE7, 0x00, 0x00, 0x00, 0x0F, 0x05,
+    ]
 }
 
 /// Is the byte at a place of the code absent, or this one?
@@ -55,12 +48,25 @@ fn check_fits(code: &[u8], place: usize, check: &[u8]) -> bool
     true
 }
 
+/// Does no byte of the code contradict the check that has to follow a sequence, laid at a place?
+#[tactic(auto, unfolding(erim_defs::specs::Inspection::Check::check_of))]
+fn fits_check(code: &[u8], place: usize, kind: SeqKind, next: u64, trust: &Trust) -> bool
+    requires { place + 14 < 2 ^ 64 }
+    ensures { (base : ℕ) → fits (laid_at base code.now) (base + place)
+        (check_of trust.now kind next) ≡ result }
+{
+    match kind {
+        SeqKind::Wrpkru => check_fits(code, place, &wrpkru_check(trust.compared(next))),
+        SeqKind::Xrstor => check_fits(code, place, &XRSTOR_CHECK),
+    }
+}
+
 /// Is the address behind a sequence an entry, where that is enough?
 fn opens_gate(kind: SeqKind, next: u64, trust: &Trust) -> bool
     ensures { result ≡ opens_gate trust.now kind next }
 {
     match kind {
-        SeqKind::Wrpkru => trust.is_entry(next),
+        SeqKind::Wrpkru => !trust.strict && trust.is_entry(next),
         SeqKind::Xrstor => false,
     }
 }
@@ -73,5 +79,5 @@ pub fn is_safe(code: &[u8], base: u64, found: &Found, trust: &Trust) -> bool
 {
     let behind = (found.at - base) as usize + found.len as usize;
     opens_gate(found.kind, base + behind as u64, trust)
-        || check_fits(code, behind, check_of(found.kind))
+        || fits_check(code, behind, found.kind, base + behind as u64, trust)
 }

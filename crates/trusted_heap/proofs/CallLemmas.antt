@@ -10,22 +10,23 @@ use Rattle.erim_defs.specs.Machine.CallResult.{Refusal, Answer, no_change}
 use Rattle.erim_defs.specs.Machine.HeapCalls.{block_at, first_fit, starts_at, talloc_from}
 use Rattle.erim_defs.specs.Machine.HeapCalls.{talloc_result, tfree_result, unit_count}
 use Rattle.erim_defs.specs.Machine.HeapCalls.{with_block, without_block}
-use Rattle.erim_defs.specs.Machine.State.{State, trust_of, is_open}
+use Rattle.erim_defs.specs.Machine.Domains.{opens_domain}
+use Rattle.erim_defs.specs.Machine.State.{State, trust_of}
 
 -- ---- talloc
 
-pub alloc_closed : (s : State) (t : Thread) (len : ℕ) → is_open (trust_of s) t.pkru ≡ false
+pub alloc_closed : (s : State) (t : Thread) (len : ℕ) → opens_domain (trust_of s) t.pkru 1 ≡ false
     → talloc_result s t len ≡ Refusal 1
 unfolding talloc_result
 alloc_closed s t len o = rw o refl
 
-pub alloc_nothing : (s : State) (t : Thread) (len : ℕ) → is_open (trust_of s) t.pkru ≡ true
+pub alloc_nothing : (s : State) (t : Thread) (len : ℕ) → opens_domain (trust_of s) t.pkru 1 ≡ true
     → len ≡ 0 → talloc_result s t len ≡ Refusal 22
 unfolding talloc_result
 alloc_nothing s t len o e = rw (o, e) refl
 
 pub alloc_full : (s : State) (t : Thread) (blocks : List Span) (len : ℕ)
-    → is_open (trust_of s) t.pkru ≡ true → len ≢ 0 → s.blocks ≡ blocks → 1024 ≤ length blocks
+    → opens_domain (trust_of s) t.pkru 1 ≡ true → len ≢ 0 → s.blocks ≡ blocks → 1024 ≤ length blocks
     → talloc_result s t len ≡ Refusal 12
 unfolding talloc_result
 alloc_full s t blocks len o n e l =
@@ -33,7 +34,7 @@ alloc_full s t blocks len o n e l =
     rw (o, ne_eqb len 0 n, e, full) refl
 
 pub alloc_from : (s : State) (t : Thread) (heaps blocks : List Span) (len count : ℕ)
-    (found : Option ℕ) → is_open (trust_of s) t.pkru ≡ true → len ≢ 0
+    (found : Option ℕ) → opens_domain (trust_of s) t.pkru 1 ≡ true → len ≢ 0
     → image_heaps s.setup.image ≡ heaps → s.blocks ≡ blocks → length blocks < 1024
     → count ≡ unit_count len → found ≡ first_fit heaps blocks count
     → talloc_result s t len ≡ talloc_from s t count found
@@ -43,7 +44,7 @@ alloc_from s t heaps blocks len count found o n h e l c f =
     rw (o, ne_eqb len 0 n, ap length e, room, h, e, ← c, ← f) refl
 
 pub alloc_some : (s : State) (t : Thread) (heaps blocks new : List Span) (len count unit : ℕ)
-    → is_open (trust_of s) t.pkru ≡ true → len ≢ 0
+    → opens_domain (trust_of s) t.pkru 1 ≡ true → len ≢ 0
     → image_heaps s.setup.image ≡ heaps → s.blocks ≡ blocks → length blocks < 1024
     → count ≡ unit_count len → Some unit ≡ first_fit heaps blocks count
     → new ≡ with_block (block_at unit count) blocks
@@ -56,19 +57,19 @@ alloc_some s t heaps blocks new len count unit o n h e l c f w =
 
 -- ---- tfree
 
-pub free_closed : (s : State) (t : Thread) (addr : ℕ) → is_open (trust_of s) t.pkru ≡ false
+pub free_closed : (s : State) (t : Thread) (addr : ℕ) → opens_domain (trust_of s) t.pkru 1 ≡ false
     → tfree_result s t addr ≡ Refusal 1
 unfolding tfree_result
 free_closed s t addr o = rw o refl
 
 pub free_nothing : (s : State) (t : Thread) (blocks : List Span) (addr : ℕ)
-    → is_open (trust_of s) t.pkru ≡ true → s.blocks ≡ blocks
+    → opens_domain (trust_of s) t.pkru 1 ≡ true → s.blocks ≡ blocks
     → list_any (starts_at addr) blocks ≡ false → tfree_result s t addr ≡ Refusal 22
 unfolding tfree_result
 free_nothing s t blocks addr o e none = rw (o, e, none) refl
 
 pub free_some : (s : State) (t : Thread) (blocks new : List Span) (addr : ℕ)
-    → is_open (trust_of s) t.pkru ≡ true → s.blocks ≡ blocks
+    → opens_domain (trust_of s) t.pkru 1 ≡ true → s.blocks ≡ blocks
     → list_any (starts_at addr) blocks ≡ true → new ≡ without_block addr blocks
     → tfree_result s t addr
     ≡ Answer 0 (let c = no_change s t in record c { blocks = new })

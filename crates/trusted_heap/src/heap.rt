@@ -7,7 +7,8 @@ ghost use Rattle.erim_defs.specs.declared.machine.Thread.{Thread};
 ghost use Rattle.erim_defs.specs.Inspection.Image.{image_heaps};
 ghost use Rattle.erim_defs.specs.Machine.HeapCalls.{first_fit, meets, starts_at, talloc_result};
 ghost use Rattle.erim_defs.specs.Machine.HeapCalls.{tfree_result, with_block, without_block};
-ghost use Rattle.erim_defs.specs.Machine.State.{State, trust_of, is_open};
+ghost use Rattle.erim_defs.specs.Machine.Domains.{opens_domain};
+ghost use Rattle.erim_defs.specs.Machine.State.{State, trust_of};
 ghost use Rattle.trusted_heap.specs.Answers.{heap_answer};
 ghost use Rattle.trusted_heap.specs.Blocks.{AreApart, EndsLow, IsWithin};
 
@@ -97,10 +98,10 @@ impl Heap {
     }
 
     /// talloc: makes a block of so many bytes where it fits at the lowest address, and answers
-    /// where it begins. `opened` is whether the caller is open. `Err` is the error number.
+    /// where it begins. `opened` is whether the caller opens domain 1. `Err` is the error number.
     pub fn talloc(&mut self, opened: bool, len: u64) -> Result<u64, u16>
         ensures answer { (s : State) (t : Thread) → image_heaps s.setup.image ≡ self.old.heaps
-            → s.blocks ≡ self.old.blocks → is_open (trust_of s) t.pkru ≡ opened
+            → s.blocks ≡ self.old.blocks → opens_domain (trust_of s) t.pkru 1 ≡ opened
             → talloc_result s t len ≡ heap_answer s t self.new.blocks result }
         ensures heaps { self.new.heaps ≡ self.old.heaps }
         ensures kept { OnErr result (self.new.blocks ≡ self.old.blocks) }
@@ -129,11 +130,11 @@ impl Heap {
         }
     }
 
-    /// tfree: gives back the block that begins at this address. `opened` is whether the caller is
-    /// open. `Err` is the error number.
+    /// tfree: gives back the block that begins at this address. `opened` is whether the caller
+    /// opens domain 1. `Err` is the error number.
     pub fn tfree(&mut self, opened: bool, addr: u64) -> Result<u64, u16>
         ensures answer { (s : State) (t : Thread) → s.blocks ≡ self.old.blocks
-            → is_open (trust_of s) t.pkru ≡ opened
+            → opens_domain (trust_of s) t.pkru 1 ≡ opened
             → tfree_result s t addr ≡ heap_answer s t self.new.blocks result }
         ensures heaps { self.new.heaps ≡ self.old.heaps }
         ensures kept { OnErr result (self.new.blocks ≡ self.old.blocks) }

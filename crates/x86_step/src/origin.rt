@@ -6,25 +6,23 @@ ghost use Rattle.erim_defs.specs.Machine.Step.{is_free, sequence_of};
 ghost use Rattle.x86_step.specs.Placed.{IsPlaced};
 
 use crate::xrstor::asks_pkru;
-use erim_defs::page::TRUSTED_KEY;
 use erim_defs::{Found, Insn, SeqKind, Thread, Trust};
-use thread_state::opens;
 
-/// Is the thread open, and outside trusted text?
+/// Does the thread open a domain other than the one in whose text it stands?
 pub(crate) fn is_outside(trust: &Trust, thread: &Thread) -> bool
     ensures { result ≡ is_outside trust.now thread.now }
 {
-    opens(thread.pkru, TRUSTED_KEY) && !trust.is_trusted(thread.rip)
+    trust.opens_other(thread.pkru, trust.text_key(thread.rip))
 }
 
-/// Is the thread open, and in trusted text?
+/// Is the thread open, and at home?
 pub(crate) fn is_inside(trust: &Trust, thread: &Thread) -> bool
     ensures { result ≡ is_inside trust.now thread.now }
 {
-    opens(thread.pkru, TRUSTED_KEY) && trust.is_trusted(thread.rip)
+    !trust.is_closed(thread.pkru) && !is_outside(trust, thread)
 }
 
-/// Was the thread open in trusted text, and is it afterwards open outside it? A step that is free
+/// Was the thread open and at home, and is it afterwards open and not at home? A step that is free
 /// of it never escapes.
 pub fn is_escape(trust: &Trust, free: bool, before: &Thread, after: &Thread) -> bool
     ensures { result ≡ is_escape trust.now free before.now after.now }
@@ -61,7 +59,7 @@ pub(crate) fn sequence_of(insn: &Insn, rip: u64, len: u8, skip: u8) -> Option<Fo
     })
 }
 
-/// May the thread be open outside trusted text after this instruction without an escape?
+/// May the thread be open and not at home after this instruction without an escape?
 pub(crate) fn is_free(insn: &Insn, thread: &Thread) -> bool
     ensures { result ≡ is_free insn.now thread.now }
 {

@@ -2,7 +2,7 @@
 -- closed, behind XRSTOR unless PKRU stayed as it was, which bit 9 of EAX tells. ERIM (USENIX
 -- Security 2019), section 3; SDM volume 2, CMP, BT, Jcc, MOV and SYSCALL; Linux on x86-64,
 -- exit_group. The bytes of the check behind XRSTOR are own.
-use Rattle.std.specs.Prelude.{ℕ, List, [], ◌∷◌, ◌++◌, length, pos, false}
+use Rattle.std.specs.Prelude.{ℕ, List, [], ◌∷◌, ◌++◌, length, pos, false, if◌then◌else◌}
 use Rattle.std.specs.Int.{w32, to_le_bytes, cast_signed}
 use Rattle.erim_defs.specs.declared.found.SeqKind.{SeqKind}
 use Rattle.erim_defs.specs.declared.found.SeqKind.TheVariants.{Wrpkru, Xrstor}
@@ -14,11 +14,16 @@ use Rattle.erim_defs.specs.declared.insn.Src.TheVariants.{Imm}
 use Rattle.erim_defs.specs.declared.insn.Width.TheVariants.{W4}
 use Rattle.erim_defs.specs.declared.linux.TheConstants.{SYS_EXIT_GROUP}
 use Rattle.erim_defs.specs.declared.register.TheConstants.{RAX}
-use Rattle.erim_defs.specs.Inspection.Trust.{TrustValue}
+use Rattle.erim_defs.specs.Inspection.Trust.{TrustValue, entry_key, pkru_of}
 
--- the PKRU of a closed thread: AD of every key but 0 is 1
+-- the PKRU of a closed thread
 abbrev pub closed_value : TrustValue → ℕ
-closed_value trust = 0x55555554
+closed_value trust = pkru_of trust 0
+
+-- what the check compares with: the value that opens the domain whose entry is behind the sequence,
+-- where an entry isn't enough, else the closed value
+abbrev pub compared : TrustValue → ℕ → ℕ
+compared trust next = pkru_of trust (if trust.strict then entry_key trust next else 0)
 
 -- the instructions of a check, in order: the comparison, the branch over the rest, the number of
 -- the call, the call
@@ -32,11 +37,11 @@ pub data Position : Type 0 where
 abbrev pub pkru_bit : ℕ
 pkru_bit = 9
 
--- cmp eax, closed; je over the rest; mov eax, 231 (exit_group); syscall. Behind XRSTOR: bt eax, 9;
--- jae over the rest; and the same end. `next` is the address behind the sequence.
+-- cmp eax, compared; je over the rest; mov eax, 231 (exit_group); syscall. After XRSTOR:
+-- bt eax, 9; jae over the rest; and the same end. `next` is the address after the sequence.
 abbrev pub check_insn : TrustValue → SeqKind → ℕ → Position → Insn
 check_insn trust Wrpkru next Compare =
-    Alu Cmp W4 (Reg RAX) (Imm (cast_signed w32 (closed_value trust))) false
+    Alu Cmp W4 (Reg RAX) (Imm (cast_signed w32 (compared trust next))) false
 check_insn trust Wrpkru next Branch = Jcc 4 (pos 7)
 check_insn trust Wrpkru next Number = Mov W4 (Reg RAX) (Imm (pos SYS_EXIT_GROUP))
 check_insn trust Wrpkru next Leave = Syscall
@@ -47,7 +52,7 @@ check_insn trust Xrstor next Leave = Syscall
 
 -- their bytes
 abbrev pub check_bytes : TrustValue → SeqKind → ℕ → Position → List ℕ
-check_bytes trust Wrpkru next Compare = 0x3D ∷ to_le_bytes w32 (closed_value trust)
+check_bytes trust Wrpkru next Compare = 0x3D ∷ to_le_bytes w32 (compared trust next)
 check_bytes trust Wrpkru next Branch = 0x74 ∷ 0x07 ∷ []
 check_bytes trust Wrpkru next Number = 0xB8 ∷ to_le_bytes w32 SYS_EXIT_GROUP
 check_bytes trust Wrpkru next Leave = 0x0F ∷ 0x05 ∷ []
@@ -69,6 +74,12 @@ bytes_before trust kind next Leave =
 -- where the instruction of a position begins in the check
 abbrev pub position_start : TrustValue → SeqKind → ℕ → Position → ℕ
 position_start trust kind next p = length (bytes_before trust kind next p)
+
+-- the check behind WRPKRU that compares with a value
+abbrev pub check_to : ℕ → List ℕ
+check_to value =
+    0x3D ∷ to_le_bytes w32 value
+    ++ (0x74 ∷ 0x07 ∷ 0xB8 ∷ to_le_bytes w32 SYS_EXIT_GROUP ++ (0x0F ∷ 0x05 ∷ []))
 
 -- the check that is to follow a sequence
 unfoldable pub check_of : TrustValue → SeqKind → ℕ → List ℕ

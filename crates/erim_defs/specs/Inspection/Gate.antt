@@ -5,13 +5,16 @@ use Rattle.std.specs.Int.{w32, to_le_bytes}
 use Rattle.erim_defs.specs.declared.found.SeqKind.{SeqKind}
 use Rattle.erim_defs.specs.declared.found.SeqKind.TheVariants.{Wrpkru}
 use Rattle.erim_defs.specs.declared.found.Found.{Found}
-use Rattle.erim_defs.specs.Inspection.Check.{closed_value, check_of, position_start}
+use Rattle.erim_defs.specs.Inspection.Check.{check_to, position_start}
 use Rattle.erim_defs.specs.Inspection.Check.{Compare, Branch, Number, Leave}
 use Rattle.erim_defs.specs.Inspection.Trust.{TrustValue}
 
--- the PKRU of a thread in trusted text: AD of the trusted key is 0 too
-abbrev pub open_value : TrustValue → ℕ
-open_value trust = 0x55555550
+-- the PKRU of a thread in trusted text and of a closed one, in a program with one domain
+abbrev pub gate_in_value : ℕ
+gate_in_value = 0x55555550
+
+abbrev pub gate_out_value : ℕ
+gate_out_value = 0x55555554
 
 -- xor ecx, ecx; xor edx, edx; mov eax, value; wrpkru
 abbrev pub gate_to : ℕ → List ℕ
@@ -20,11 +23,11 @@ gate_to value =
 
 -- behind it is an entry
 unfoldable pub gate_in : TrustValue → List ℕ
-gate_in trust = gate_to (open_value trust)
+gate_in trust = gate_to gate_in_value
 
 -- it ends with the check
 unfoldable pub gate_out : TrustValue → List ℕ
-gate_out trust = gate_to (closed_value trust) ++ check_of trust Wrpkru 0
+gate_out trust = gate_to gate_out_value ++ check_to gate_out_value
 
 -- the number of the instruction that begins at an address, in the check behind a sequence
 abbrev pub position_at : TrustValue → SeqKind → ℕ → ℕ → Option ℕ

@@ -28,7 +28,8 @@ use Rattle.erim_defs.specs.declared.elf.TheConstants.{WIDE_NOTE_ALIGNMENT}
 use Rattle.erim_defs.specs.declared.limits.TheConstants.{MOST_FUNCTIONS, MOST_HEADERS, MOST_PAGES}
 use Rattle.erim_defs.specs.declared.limits.TheConstants.{MOST_RECORDS}
 use Rattle.erim_defs.specs.declared.note.TheConstants.{FUNCTIONS_NOTE, FUNCTION_LENGTH}
-use Rattle.erim_defs.specs.declared.note.TheConstants.{FUNCTION_SIZE, NOTE_COUNT}
+use Rattle.erim_defs.specs.declared.note.TheConstants.{DOMAINS_VERSION, FUNCTION_SIZE}
+use Rattle.erim_defs.specs.declared.note.TheConstants.{INTEGRITY_DOMAIN, MOST_DOMAINS, NOTE_COUNT}
 use Rattle.erim_defs.specs.declared.note.TheConstants.{NOTE_VERSION, RECORD_KEY, RECORD_LENGTH}
 use Rattle.erim_defs.specs.declared.note.TheConstants.{RECORD_SIZE, RECORD_START, TRUSTED_DATA}
 use Rattle.erim_defs.specs.declared.note.TheConstants.{TRUSTED_ENTRY, TRUSTED_HEAP}
@@ -318,10 +319,11 @@ note_fault bytes (h ∷ hs) trust functions =
 unfoldable pub notes : List ℕ → List Note
 notes bytes = notes_of bytes (headers bytes)
 
--- a version that isn't 1
+-- the functions note has version 1, the trust note 1 or 2
 abbrev pub is_versioned : List ℕ → Note → Bool
-is_versioned bytes note = not (is_trust note || is_functions note)
-    || number_at bytes note.desc 4 == NOTE_VERSION
+is_versioned bytes note =
+    (not (is_trust note || is_functions note) || number_at bytes note.desc 4 == NOTE_VERSION)
+    || (is_trust note && number_at bytes note.desc 4 == DOMAINS_VERSION)
 
 abbrev pub version_fault : List ℕ → Option ImageFault
 version_fault bytes = if list_any (λ note. not (is_versioned bytes note)) (notes bytes)
@@ -357,6 +359,16 @@ records_in bytes (note ∷ others) =
 abbrev pub records : List ℕ → List Record
 records bytes = records_in bytes (notes bytes)
 
+-- the first trust note has version 2
+abbrev pub has_domains_in : List ℕ → List Note → Bool
+has_domains_in bytes [] = false
+has_domains_in bytes (note ∷ others) =
+    if is_trust note then number_at bytes note.desc 4 == DOMAINS_VERSION
+    else has_domains_in bytes others
+
+abbrev pub has_domains : List ℕ → Bool
+has_domains bytes = has_domains_in bytes (notes bytes)
+
 -- kinds; an entry has no length
 abbrev pub is_text : Record → Bool
 is_text r = r.kind == TRUSTED_TEXT
@@ -381,12 +393,32 @@ is_whole_range seen r =
     && (nat_lt 0 r.length && (nat_le (r.start + r.length) (2 ^ 47)
     && not (list_any (overlaps r) seen))))
 
-abbrev pub is_record : List Record → Record → Bool
-is_record seen r = r.key == TRUSTED_KEY && (if is_entry_record r then r.length == 0
+-- a mark of an integrity domain has no range, and is the only one of its key
+abbrev pub is_mark : Record → Bool
+is_mark r = r.kind == INTEGRITY_DOMAIN
+
+abbrev pub marks : ℕ → Record → Bool
+marks key r = is_mark r && r.key == key
+
+abbrev pub is_new_mark : List Record → Record → Bool
+is_new_mark seen r = r.start == 0 && (r.length == 0 && not (list_any (marks r.key) seen))
+
+-- keys 1 to 4; heaps have the trusted key. Version 1 has that key alone, and no marks
+abbrev pub is_keyed_record : Bool → Record → Bool
+is_keyed_record domains r = r.key == TRUSTED_KEY
+    || (domains && (not (r.kind == TRUSTED_HEAP) && (nat_lt 0 r.key && nat_le r.key MOST_DOMAINS)))
+
+-- an entry or a mark
+abbrev pub has_no_range : Record → Bool
+has_no_range r = is_entry_record r || is_mark r
+
+abbrev pub is_record : Bool → List Record → Record → Bool
+is_record domains seen r = is_keyed_record domains r && (if has_no_range r
+    then (if is_entry_record r then r.length == 0 else domains && is_new_mark seen r)
     else is_range r && is_whole_range seen r)
 
-unfoldable pub record_fault : ℕ → List Record → List Record → Option ImageFault
-record_fault index seen rs = first_failing is_record BadRecord index seen rs
+unfoldable pub record_fault : Bool → ℕ → List Record → List Record → Option ImageFault
+record_fault domains index seen rs = first_failing (is_record domains) BadRecord index seen rs
 
 -- a test of each of so many pages
 unfoldable pub all_pages : (ℕ → Bool) → ℕ → ℕ → Bool
@@ -420,12 +452,13 @@ is_placed_data ss r = if r.kind == TRUSTED_DATA then lies_in holds_data ss r
 unfoldable pub data_fault : ℕ → List Segment → List Record → List Record → Option ImageFault
 data_fault index ss seen rs = first_failing (λ _ r. is_placed_data ss r) DataRange index seen rs
 
-abbrev pub holds_address : ℕ → Record → Bool
-holds_address a r = is_text r && (nat_le r.start a && nat_lt a (r.start + r.length))
+abbrev pub holds_entry : Record → Record → Bool
+holds_entry e r = is_text r
+    && (r.key == e.key && (nat_le r.start e.start && nat_lt e.start (r.start + r.length)))
 
--- an entry lies in the trusted text of the records
+-- an entry lies in the text with its key
 abbrev pub is_placed_entry : List Record → Record → Bool
-is_placed_entry all r = if is_entry_record r then list_any (holds_address r.start) all else true
+is_placed_entry all r = if is_entry_record r then list_any (holds_entry r) all else true
 
 unfoldable pub entry_fault : ℕ → List Record → List Record → List Record → Option ImageFault
 entry_fault index all seen rs =
@@ -514,7 +547,7 @@ unfoldable pub trust_fault : List ℕ → Option ImageFault
 trust_fault bytes =
     or_else (note_fault bytes (headers bytes) false false)
     (or_else (version_fault bytes)
-    (or_else (record_fault 0 [] (records bytes))
+    (or_else (record_fault (has_domains bytes) 0 [] (records bytes))
     (or_else (text_fault 0 (segments bytes) [] (records bytes))
     (or_else (data_fault 0 (segments bytes) [] (records bytes))
     (entry_fault 0 (records bytes) [] (records bytes))))))
@@ -572,12 +605,24 @@ abbrev pub starts_of : List Record → List ℕ
 starts_of [] = []
 starts_of (r ∷ rs) = if is_entry_record r then r.start ∷ starts_of rs else starts_of rs
 
+abbrev pub keys_of : (Record → Bool) → List Record → List ℕ
+keys_of test [] = []
+keys_of test (r ∷ rs) = if test r then r.key ∷ keys_of test rs else keys_of test rs
+
+-- a flag for each key from 0 to 4
+abbrev pub key_flags : (ℕ → Bool) → List Bool
+key_flags test = false ∷ test 1 ∷ test 2 ∷ test 3 ∷ test 4 ∷ []
+
 -- the trusted text and its entries
 unfoldable pub image_trust : List ℕ → TrustValue
 image_trust bytes = record {
   texts = spans_of is_text (records bytes);
-  entries = starts_of
-      (records bytes);
+  entries = starts_of (records bytes);
+  text_keys = keys_of is_text (records bytes);
+  entry_keys = keys_of is_entry_record (records bytes);
+  domains = key_flags (λ key. key == TRUSTED_KEY || list_any (λ r. r.key == key) (records bytes));
+  integrity = key_flags (λ key. list_any (marks key) (records bytes));
+  strict = has_domains bytes;
 }
 
 -- trusted data and trusted heaps
@@ -586,6 +631,10 @@ image_data bytes = spans_of (λ r. r.kind == TRUSTED_DATA) (records bytes)
 
 unfoldable pub image_heaps : List ℕ → List Span
 image_heaps bytes = spans_of (λ r. r.kind == TRUSTED_HEAP) (records bytes)
+
+-- the key of each range of trusted data; heaps have the trusted key
+unfoldable pub data_keys : List ℕ → List ℕ
+data_keys bytes = keys_of (λ r. r.kind == TRUSTED_DATA) (records bytes)
 
 -- a code on trusted text
 abbrev pub text_of : TrustValue → Code → Code

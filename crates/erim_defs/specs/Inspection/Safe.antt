@@ -1,7 +1,8 @@
 -- When an occurrence is safe. ERIM (USENIX Security 2019), section 3: a WRPKRU is followed by an
 -- entry of the trusted part, or by the comparison of EAX and the end of the program. Own: an XRSTOR
 -- is followed by its check; an absent byte contradicts nothing.
-use Rattle.std.specs.Prelude.{ℕ, ◌+◌, ◌&&◌, ◌||◌, Bool, true, false, Option, Some, None, List, []}
+use Rattle.std.specs.Prelude.{ℕ, ◌+◌, ◌&&◌, ◌||◌, not, Bool, true, false, Option, Some, None, List}
+use Rattle.std.specs.Prelude.{[]}
 use Rattle.std.specs.Prelude.{◌∷◌, suc, if◌then◌else◌}
 use Rattle.erim_defs.specs.declared.found.SeqKind.{SeqKind}
 use Rattle.erim_defs.specs.declared.found.SeqKind.TheVariants.{Wrpkru, Xrstor}
@@ -16,9 +17,9 @@ unfoldable pub fits : Code → ℕ → List ℕ → Bool
 fits c a [] = true
 fits c a (x ∷ xs) = allows (c a) x && fits c (suc a) xs
 
--- is the address behind a sequence an entry of the trusted part, which is enough after WRPKRU
+-- is the address behind a sequence an entry of the trusted part, where that is enough after WRPKRU
 abbrev pub opens_gate : TrustValue → SeqKind → ℕ → Bool
-opens_gate trust Wrpkru next = is_entry_of trust next
+opens_gate trust Wrpkru next = not trust.strict && is_entry_of trust next
 opens_gate trust Xrstor next = false
 
 -- an occurrence is safe where an entry follows, or nothing contradicts its check behind it

@@ -11,7 +11,9 @@ use Rattle.erim_defs.specs.declared.trust.Span.{Span}
 use Rattle.erim_defs.specs.Inspection.Image.{image_heaps}
 use Rattle.erim_defs.specs.Machine.CallResult.{CallResult, Refusal, Answer, no_change, or_refuse}
 use Rattle.erim_defs.specs.Machine.Least.{least_below}
-use Rattle.erim_defs.specs.Machine.State.{State, trust_of, is_open}
+use Rattle.erim_defs.specs.declared.page.TheConstants.{TRUSTED_KEY}
+use Rattle.erim_defs.specs.Machine.Domains.{opens_domain}
+use Rattle.erim_defs.specs.Machine.State.{State, trust_of}
 
 -- ---- where a block fits
 
@@ -77,7 +79,7 @@ talloc_from s t count (Some unit) =
 -- talloc(len)
 unfoldable pub talloc_result : State → Thread → ℕ → CallResult
 talloc_result s t len =
-    or_refuse (not (is_open (trust_of s) t.pkru)) EPERM
+    or_refuse (not (opens_domain (trust_of s) t.pkru TRUSTED_KEY)) EPERM
     (or_refuse (len == 0) EINVAL
     (or_refuse (nat_le MOST_BLOCKS (length s.blocks)) ENOMEM
     (talloc_from s t (unit_count len)
@@ -86,6 +88,6 @@ talloc_result s t len =
 -- tfree(addr)
 unfoldable pub tfree_result : State → Thread → ℕ → CallResult
 tfree_result s t addr =
-    or_refuse (not (is_open (trust_of s) t.pkru)) EPERM
+    or_refuse (not (opens_domain (trust_of s) t.pkru TRUSTED_KEY)) EPERM
     (or_refuse (not (list_any (starts_at addr) s.blocks)) EINVAL
     (Answer 0 (let c = no_change s t in record c { blocks = without_block addr s.blocks })))

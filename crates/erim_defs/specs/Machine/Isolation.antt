@@ -1,8 +1,8 @@
 -- The isolation invariant. Own, after ERIM: while no thread has escaped, each open thread stands in
--- trusted text or in the check behind the sequence that opened it, and nothing else that is
--- published writes PKRU.
+-- the text of the one domain that it opens, or in the check after the sequence that opened it, and
+-- nothing else that is published writes PKRU.
 use Rattle.std.specs.Prelude.{◌≡◌, ◌≢◌, ◌⊎◌, ℕ, ◌+◌, ◌*◌, ◌/◌, ◌==◌, ◌≤◌, ◌^◌, not, true}
-use Rattle.std.specs.Prelude.{false, Some, None, List, [], ◌∷◌, length}
+use Rattle.std.specs.Prelude.{false, Some, None, List, [], ◌∷◌, length, Bool}
 use Rattle.erim_defs.specs.declared.machine.Rights.{Rights}
 use Rattle.erim_defs.specs.declared.machine.Thread.{Thread}
 use Rattle.erim_defs.specs.declared.machine.Entry.{Entry}
@@ -22,10 +22,10 @@ use Rattle.erim_defs.specs.Machine.State.{Setup, State, code, trust_of, is_outsi
 use Rattle.erim_defs.specs.Machine.Start.{image_byte, frames_needed}
 use Rattle.erim_defs.specs.Machine.Replay.{replay}
 use Rattle.erim_defs.specs.Bits.{has_bit}
-use Rattle.erim_defs.specs.Inspection.Check.{closed_value, pkru_bit, Position, Compare, Branch}
+use Rattle.erim_defs.specs.Inspection.Check.{compared, pkru_bit, Position, Compare, Branch}
 use Rattle.erim_defs.specs.Inspection.Check.{Number, Leave}
 use Rattle.erim_defs.specs.Inspection.Check.{position_start}
-use Rattle.erim_defs.specs.Inspection.Trust.{TrustValue, in_text_of}
+use Rattle.erim_defs.specs.Inspection.Trust.{TrustValue, in_text_of, is_domain}
 
 -- a code without unsafe sequences
 abbrev pub IsSafeCode : TrustValue → Code → Type 0
@@ -36,7 +36,7 @@ IsSafeCode trust c = (a : ℕ) → unsafe_at trust c a ≡ None
 -- what is known of a thread that stands at an instruction of its check, so that it can only go on
 -- to the end of the process
 abbrev pub PositionFact : TrustValue → SeqKind → ℕ → Position → Thread → Type 0
-PositionFact trust Wrpkru next Compare t = eax t ≢ closed_value trust
+PositionFact trust Wrpkru next Compare t = eax t ≢ compared trust next
 PositionFact trust Wrpkru next Branch t = t.flags.zf ≡ false
 PositionFact trust Wrpkru next Number t = Unit {0}
 PositionFact trust Wrpkru next Leave t = register t RAX ≡ SYS_EXIT_GROUP
@@ -45,7 +45,7 @@ PositionFact trust Xrstor next Branch t = t.flags.cf ≡ true
 PositionFact trust Xrstor next Number t = Unit {0}
 PositionFact trust Xrstor next Leave t = register t RAX ≡ SYS_EXIT_GROUP
 
--- a thread with this origin, behind which no entry follows, stands at an instruction of its check
+-- a thread with this origin, behind which no entry is enough, stands at an instruction of its check
 pub record IsInCheck (trust : TrustValue) (c : Code) (t : Thread) : Type 0 where
   pub origin : Found
   pub position : Position
@@ -56,7 +56,7 @@ pub record IsInCheck (trust : TrustValue) (c : Code) (t : Thread) : Type 0 where
       (origin.at + origin.len) position
   pub fact : PositionFact trust origin.kind (origin.at + origin.len) position t
 
--- closed, or in trusted text, or in its check
+-- closed, or at home, or in its check
 abbrev pub Stands : TrustValue → Code → Thread → Type 0
 Stands trust c t = (is_outside trust t ≡ false) ⊎ IsInCheck trust c t
 
@@ -74,11 +74,13 @@ pub record IsRuled (r : Rights) : Type 0 where
   -- keys are below 16, and protection bits below 8
   pub sound : IsSound r
 
--- a page of trusted text is mapped, published, has key 0 and the bytes that were loaded
+-- a page of trusted text is mapped, published, doesn't ask PROT_WRITE, and has key 0 and the bytes
+-- that were loaded
 pub record KeepsText (setup : Setup) (rights : RightsMap) (bytes : ByteMap) (q : ℕ) : Type 0 where
   pub held : Rights
   pub mapped : rights q ≡ Some held
   pub exec : held.exec ≡ true
+  pub asks : asks_write held.asked ≡ false
   pub key : held.key ≡ 0
   pub same : (a : ℕ) → a / 4096 ≡ q → bytes a ≡ image_byte setup.image a
 
@@ -86,13 +88,18 @@ abbrev pub Each : (Thread → Type 0) → List Thread → Type 0
 Each P [] = Unit {0}
 Each P (t ∷ ts) = P t × Each P ts
 
+-- key 0 and every domain are taken
+abbrev pub HasTaken : TrustValue → (ℕ → Bool) → Type 0
+HasTaken trust keys = (keys 0 ≡ true) × ((key : ℕ) → is_domain trust key ≡ true → keys key ≡ true)
+
 pub record IsKept (s : State) : Type 0 where
   pub ruled : (q : ℕ) (r : Rights) → s.rights q ≡ Some r → IsRuled r
   pub safe : IsSafeCode (trust_of s) (code s)
   pub text : (q : ℕ) → in_text_of (trust_of s) (4096 * q) ≡ true
       → KeepsText s.setup s.rights s.bytes q
-  pub keys : (s.keys 0 ≡ true) × (s.keys 1 ≡ true)
-  -- a thread that is closed or in trusted text has no origin
+  -- key 0 and every domain are taken
+  pub keys : HasTaken (trust_of s) s.keys
+  -- a thread that is closed or at home has no origin
   pub origins : Each (λ t. is_outside (trust_of s) t ≡ false → t.origin ≡ None) s.threads
   -- before an end and before an escape every live thread stands
   pub stand : s.end ≡ None → s.escape ≡ None

@@ -11,10 +11,11 @@ use Rattle.erim_defs.specs.declared.linux.TheConstants.{LOWEST_FREE_PAGE, KEYS, 
 use Rattle.erim_defs.specs.declared.machine.Rights.{Rights}
 use Rattle.erim_defs.specs.declared.machine.Thread.{Thread}
 use Rattle.erim_defs.specs.declared.page.TheConstants.{PLAIN_KEY, TRUSTED_KEY}
-use Rattle.erim_defs.specs.Inspection.Trust.{in_text_of}
+use Rattle.erim_defs.specs.Inspection.Trust.{in_text_of, is_domain}
 use Rattle.erim_defs.specs.Machine.Pages.{RightsMap, asks_exec, published_rights}
 use Rattle.erim_defs.specs.Machine.Count.{last_page, count_below, mapped}
-use Rattle.erim_defs.specs.Machine.State.{State, trust_of, is_open}
+use Rattle.erim_defs.specs.Machine.Domains.{is_denied}
+use Rattle.erim_defs.specs.Machine.State.{State, trust_of}
 use Rattle.erim_defs.specs.Machine.Start.{unpublished_rights}
 use Rattle.erim_defs.specs.Machine.CallResult.{Change, CallResult, Refusal, Answer, no_change}
 use Rattle.erim_defs.specs.Machine.CallResult.{or_refuse}
@@ -48,11 +49,16 @@ abbrev pub has_key : Option Rights → ℕ → Bool
 has_key None key = false
 has_key (Some rights) key = rights.key == key
 
--- it touches trusted text, or the caller is closed and it touches trusted memory
+-- the key of a page is a domain that the caller doesn't open
+abbrev pub has_denied : State → Thread → Option Rights → Bool
+has_denied s t None = false
+has_denied s t (Some rights) = is_denied (trust_of s) t.pkru rights.key
+
+-- it touches trusted text, or a page of a domain that the caller doesn't open
 abbrev pub is_protected : State → Thread → PageRange → Bool
 is_protected s t r =
     any_page r (λ q. in_text_of (trust_of s) (4096 * q))
-    || (not (is_open (trust_of s) t.pkru) && any_page r (λ q. has_key (s.rights q) TRUSTED_KEY))
+    || any_page r (λ q. has_denied s t (s.rights q))
 
 abbrev pub has_byte_on : Option Found → ℕ → Bool
 has_byte_on None q = false
@@ -159,10 +165,10 @@ abbrev pub is_foreign : State → Option ℕ → Bool
 is_foreign s None = false
 is_foreign s (Some key) = not (is_taken s key)
 
--- the key is the trusted one, and the caller is closed
+-- the key is a domain that the caller doesn't open
 abbrev pub is_trusted_key : State → Thread → Option ℕ → Bool
 is_trusted_key s t None = false
-is_trusted_key s t (Some key) = key == TRUSTED_KEY && not (is_open (trust_of s) t.pkru)
+is_trusted_key s t (Some key) = is_denied (trust_of s) t.pkru key
 
 abbrev pub protect : State → Thread → ℕ → PageRange → ℕ → Option ℕ → CallResult
 protect s t addr r prot key =
@@ -189,7 +195,7 @@ unfoldable pub with_key_rights : ℕ → ℕ → ℕ → ℕ
 with_key_rights pkru key bits =
     pkru % 2 ^ (2 * key) + 2 ^ (2 * key) * (bits + 4 * (pkru / 2 ^ (2 * key + 2)))
 
--- keys 0 and 1 are always taken
+-- key 0 and the domains are always taken, key 1 among them
 abbrev pub least_free_key : State → Option ℕ
 least_free_key s = least_below KEYS (λ key. nat_lt TRUSTED_KEY key && not (s.keys key))
 
@@ -210,5 +216,5 @@ pkey_alloc_result s t flags bits =
 unfoldable pub pkey_free_result : State → Thread → ℕ → CallResult
 pkey_free_result s t key =
     let k = key % 2 ^ 32 in
-    or_refuse (not (nat_lt TRUSTED_KEY k && is_taken s k)) EINVAL
+    or_refuse (k == PLAIN_KEY || (is_domain (trust_of s) k || not (is_taken s k))) EINVAL
     (Answer 0 (let c = no_change s t in record c { keys = λ j. not (j == k) && s.keys j }))

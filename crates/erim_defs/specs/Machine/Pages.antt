@@ -30,6 +30,10 @@ IsSound r = (r.key < 16) × (r.asked < 8)
 abbrev pub published_rights : Rights → Rights
 published_rights r = record r { exec = true; write = false }
 
+-- and once a write took its publication back
+abbrev pub taken_back : Rights → Rights
+taken_back r = record r { exec = false; write = true }
+
 abbrev pub is_published : Option Rights → Bool
 is_published None = false
 is_published (Some r) = r.exec

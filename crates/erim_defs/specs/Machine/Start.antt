@@ -1,5 +1,5 @@
 -- The state at the start. Own, after Linux's exec of a static program: ELF-64, "Program loading".
-use Rattle.std.specs.Prelude.{ℕ, ◌+◌, ◌*◌, ◌/◌, ◌==◌, ◌&&◌, ◌++◌, not, nat_lt, nat_le, Option}
+use Rattle.std.specs.Prelude.{ℕ, ◌+◌, ◌*◌, ◌/◌, ◌==◌, ◌&&◌, ◌||◌, ◌++◌, not, nat_lt, nat_le, Option}
 use Rattle.std.specs.Prelude.{Some, None, List, [], ◌∷◌, Bool, true, false, replicate, slice_set}
 use Rattle.std.specs.Prelude.{if◌then◌else◌}
 use Rattle.std.specs.List.{list_any}
@@ -10,13 +10,14 @@ use Rattle.erim_defs.specs.declared.segment.Segment.{Segment}
 use Rattle.erim_defs.specs.declared.linux.TheConstants.{PROT_EXEC, PROT_READ, PROT_WRITE}
 use Rattle.erim_defs.specs.declared.page.TheConstants.{PLAIN_KEY, STACK_END_PAGE, STACK_PAGE}
 use Rattle.erim_defs.specs.declared.page.TheConstants.{STACK_START}
-use Rattle.erim_defs.specs.declared.page.TheConstants.{TRUSTED_KEY}
 use Rattle.erim_defs.specs.declared.register.TheConstants.{RSP}
 use Rattle.erim_defs.specs.Machine.Pages.{RightsMap, ByteMap, asks_write, published_rights}
-use Rattle.erim_defs.specs.Inspection.Trust.{spans, in_text_of}
+use Rattle.erim_defs.specs.Inspection.Trust.{spans, in_text_of, is_domain}
 use Rattle.erim_defs.specs.Inspection.Check.{closed_value}
 use Rattle.erim_defs.specs.Inspection.Image.{segments, touches, is_executable, is_writable}
 use Rattle.erim_defs.specs.Inspection.Image.{loaded_byte, entry_point, image_data, image_heaps}
+use Rattle.erim_defs.specs.Inspection.Image.{records}
+use Rattle.erim_defs.specs.Inspection.Image.{Record, is_data, span_of}
 use Rattle.erim_defs.specs.Inspection.Image.{trusted_code, page_total, image_trust}
 use Rattle.erim_defs.specs.Inspection.Unsafe.{first_unsafe}
 use Rattle.erim_defs.specs.Machine.State.{Setup, State}
@@ -48,6 +49,14 @@ image_byte image a = byte_in image (segments image) a
 abbrev pub is_keyed : List ℕ → ℕ → Bool
 is_keyed image q = list_any (spans (4096 * q)) (image_data image ++ image_heaps image)
 
+-- the key of the record of trusted data or of a trusted heap in which a page lies, or none
+abbrev pub key_in : List Record → ℕ → ℕ
+key_in [] q = PLAIN_KEY
+key_in (r ∷ rs) q = if is_data r && spans (4096 * q) (span_of r) then r.key else key_in rs q
+
+abbrev pub page_key : List ℕ → ℕ → ℕ
+page_key image q = key_in (records image) q
+
 -- readable where anything is asked
 abbrev pub unpublished_rights : ℕ → ℕ → Rights
 unpublished_rights asked key =
@@ -74,7 +83,7 @@ unfoldable pub first_rights : Setup → RightsMap
 first_rights setup = λ q. if is_stack q
     then Some (unpublished_rights (PROT_READ + PROT_WRITE) PLAIN_KEY)
     else rights_at_start (in_text_of (image_trust setup.image) (4096 * q))
-    (if is_keyed setup.image q then TRUSTED_KEY else PLAIN_KEY) (image_asked setup.image q)
+    (page_key setup.image q) (image_asked setup.image q)
 
 -- closed, at the entry point, RSP at the end of the stack
 unfoldable pub first_thread : Setup → Thread
@@ -93,7 +102,7 @@ first_state setup = record {
   rights = first_rights setup;
   bytes = image_byte setup.image;
   threads = first_thread setup ∷ [];
-  keys = λ k. nat_lt k 2;
+  keys = λ k. k == PLAIN_KEY || is_domain (image_trust setup.image) k;
   blocks = [];
   output = [];
   end = None;

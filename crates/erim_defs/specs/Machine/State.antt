@@ -1,17 +1,16 @@
--- The state of the machine. Own, after ERIM: a thread is open where the trusted key 1 is open to
--- it, else closed.
+-- The state of the machine. Own, after ERIM: a thread is open where a domain is open to it, else
+-- closed.
 use Rattle.std.specs.Prelude.{ℕ, ◌&&◌, ◌||◌, not, Option, Some, None, List, [], ◌∷◌, Bool, false}
 use Rattle.std.specs.Prelude.{if◌then◌else◌}
 use Rattle.erim_defs.specs.declared.machine.Thread.{Thread}
 use Rattle.erim_defs.specs.declared.found.Found.{Found}
 use Rattle.erim_defs.specs.declared.machine.End.{End}
 use Rattle.erim_defs.specs.declared.machine.Escape.{Escape}
-use Rattle.erim_defs.specs.declared.page.TheConstants.{TRUSTED_KEY}
 use Rattle.erim_defs.specs.declared.trust.Span.{Span}
 use Rattle.erim_defs.specs.Inspection.Code.{Code, or_else}
 use Rattle.erim_defs.specs.Machine.Pages.{RightsMap, ByteMap, published_code}
-use Rattle.erim_defs.specs.Machine.Access.{opens}
-use Rattle.erim_defs.specs.Inspection.Trust.{TrustValue, in_text_of}
+use Rattle.erim_defs.specs.Machine.Domains.{opened, is_set_but}
+use Rattle.erim_defs.specs.Inspection.Trust.{TrustValue, text_key}
 use Rattle.erim_defs.specs.Inspection.Image.{image_trust}
 
 -- what a process is started with
@@ -55,25 +54,26 @@ trust_of s = image_trust s.setup.image
 
 -- ---- open threads
 
--- a thread with this PKRU is open
+-- a thread with this PKRU is open: it opens a domain
 abbrev pub is_open : TrustValue → ℕ → Bool
-is_open trust pkru = opens pkru TRUSTED_KEY
+is_open trust pkru = is_set_but 0 (opened trust pkru)
 
--- open, and outside trusted text
+-- open, and not at home: it opens another domain than the one in whose text it stands
 abbrev pub is_outside : TrustValue → Thread → Bool
-is_outside trust t = is_open trust t.pkru && not (in_text_of trust t.rip)
+is_outside trust t = is_set_but (text_key trust t.rip) (opened trust t.pkru)
 
--- open, and in trusted text
+-- open, and at home
 abbrev pub is_inside : TrustValue → Thread → Bool
-is_inside trust t = is_open trust t.pkru && in_text_of trust t.rip
+is_inside trust t = is_open trust t.pkru && not (is_outside trust t)
 
 -- the thread with its origin after a step: the sequence that the instruction executed, if it is
--- one, else the one before; none where the thread is closed or in trusted text
+-- one, else the one before; none where the thread is closed or at home
 abbrev pub with_origin : TrustValue → Option Found → Thread → Thread
 with_origin trust executed t =
     record t { origin = (if is_outside trust t then or_else executed t.origin else None) }
 
--- the thread was open in trusted text and is afterwards open outside it; no step that is free of it
+-- the thread was open and at home and is afterwards open and not at home; no step that is free of
+-- it
 abbrev pub is_escape : TrustValue → Bool → Thread → Thread → Bool
 is_escape trust free before after = not free && (is_inside trust before && is_outside trust after)
 

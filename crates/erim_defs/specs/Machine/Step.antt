@@ -12,6 +12,7 @@ use Rattle.erim_defs.specs.declared.found.Found.{Found}
 use Rattle.erim_defs.specs.declared.machine.End.{End}
 use Rattle.erim_defs.specs.declared.machine.End.TheVariants.{Exit, Fault as EndFault, Refused}
 use Rattle.erim_defs.specs.declared.machine.Cause.TheVariants.{Exec, Undefined as UndefinedCause}
+use Rattle.erim_defs.specs.declared.machine.Cause.TheVariants.{Write as WriteCause}
 use Rattle.erim_defs.specs.declared.machine.Access.{Access}
 use Rattle.erim_defs.specs.declared.machine.Access.TheVariants.{Fault, Missing}
 use Rattle.erim_defs.specs.declared.insn.Insn.{Insn}
@@ -25,8 +26,9 @@ use Rattle.erim_defs.specs.Bits.{has_bit}
 use Rattle.erim_defs.specs.Inspection.Check.{pkru_bit}
 use Rattle.erim_defs.specs.Inspection.Code.{Code}
 use Rattle.erim_defs.specs.Machine.Pages.{asks_exec, published_rights, code_with, code_bytes}
-use Rattle.erim_defs.specs.Machine.Pages.{with_value_at}
-use Rattle.erim_defs.specs.Machine.Access.{whole}
+use Rattle.erim_defs.specs.Machine.Pages.{with_value_at, asks_write, taken_back}
+use Rattle.erim_defs.specs.Machine.Access.{whole, opens_write}
+use Rattle.erim_defs.specs.Machine.MapCalls.{is_pinned}
 use Rattle.erim_defs.specs.Inspection.Unsafe.{first_unsafe}
 use Rattle.erim_defs.specs.Encoding.Decoding.{decode}
 use Rattle.erim_defs.specs.Machine.Plan.{Effect, Done, Stopped, Called, effect, bytes_after_write}
@@ -90,6 +92,29 @@ after_exec_fault (Some rights) x r s =
     then after_verdict (first_unsafe (trust_of s) (code_with s.rights s.bytes (x / 4096)))
     (x / 4096) rights r s
     else after_fault (Fault Exec x) r s
+
+-- ---- write faults: a thread may write the page but for its publication
+
+-- the page q with these rights takes its publication back where it isn't pinned, and stays else
+abbrev pub after_take_back : ℕ → Rights → State → State
+after_take_back q rights s = if is_pinned s.threads q then s
+    else record s { rights = with_value_at s.rights q (Some (taken_back rights)) }
+
+-- a published page that asks PROT_WRITE, and whose key the thread may write
+abbrev pub is_write_fault : Rights → ℕ → Bool
+is_write_fault rights pkru =
+    rights.exec && (asks_write rights.asked && opens_write pkru rights.key)
+
+abbrev pub after_write_fault : Option Rights → ℕ → Runner → State → State
+after_write_fault None a r s = after_fault (Fault WriteCause a) r s
+after_write_fault (Some rights) a r s =
+    if is_write_fault rights r.thread.pkru then after_take_back (a / 4096) rights s
+    else after_fault (Fault WriteCause a) r s
+
+-- what an access that stops makes of the state
+abbrev pub after_stop : Access → Runner → State → State
+after_stop (Fault WriteCause a) r s = after_write_fault (s.rights (a / 4096)) a r s
+after_stop other r s = after_fault other r s
 
 -- ---- the thread goes on
 
@@ -192,7 +217,7 @@ after_instruction (Done t w) i r s =
       free = is_free i.insn r.thread;
     })
     (record s { bytes = bytes_after_write w s.bytes })
-after_instruction (Stopped a) i r s = after_fault a r s
+after_instruction (Stopped a) i r s = after_stop a r s
 after_instruction Called i r s =
     after_call (call_result s r.number (behind_syscall i.len r.thread)) r
     (behind_syscall i.len r.thread) s

@@ -3,7 +3,7 @@
 use Rattle.std.specs.Prelude.{ℕ, ◌+◌, ◌-◌, ◌/◌, ◌%◌, List, [], ◌∷◌, ◌++◌, replicate}
 use Rattle.erim_defs.specs.declared.note.TheConstants.{TRUSTED_DATA, TRUSTED_ENTRY, TRUSTED_TEXT}
 use Rattle.erim_defs.specs.Inspection.Gate.{gate_in, gate_out}
-use Rattle.erim_defs.specs.Inspection.Trust.{TrustValue}
+use Rattle.erim_defs.specs.Inspection.Trust.{TrustValue, plain_trust}
 use Rattle.erim_defs.specs.Output.LayImage.{Part, Mark, words, laid_image}
 
 -- ---- from a seed
@@ -58,7 +58,7 @@ made_code threads rounds = spawn_code threads ++ count_code threads rounds
 
 -- what the gates write rests on no trusted part
 abbrev no_trust : TrustValue
-no_trust = record { texts = []; entries = [] }
+no_trust = plain_trust [] []
 
 -- counts a round, and goes back; writes the count, and ends the process
 unfoldable pub made_text : List ℕ

@@ -12,11 +12,13 @@ records_fault-requires-clause-records c = c.records.ensures.within _ c.in_ok-see
 
 pub returns-in-Some : goal.returns-in-Some
 returns-in-Some c = trust_records _ _ _ c.in_ok-seen.ensures.0 c.in_ok-seen.ensures.1
-    (not-false _ c.if-not-seen.false) (c.records.ensures.same _) ∙ sym c.in-Some.ensures
+    (not-false _ c.if-not-seen.false) (c.records.ensures.same _)
+    c.records.ensures.domains ∙ sym c.in-Some.ensures
 
 pub returns : goal.returns
 returns c = (
   trust_records _ _ _ c.in_ok-seen.ensures.0 c.in_ok-seen.ensures.1
-      (not-false _ c.if-not-seen.false) (c.records.ensures.same _) ∙ sym c.in_default.ensures,
+      (not-false _ c.if-not-seen.false) (c.records.ensures.same _)
+      c.records.ensures.domains ∙ sym c.in_default.ensures,
   record { seen_is = c.in_ok-seen.ensures.1; items = c.in_ok-seen.ensures.2 },
 )

@@ -1,5 +1,6 @@
 use Rattle.std.proofs.Common.{ap, ◌∙◌}
 use Rattle.erim_defs.specs.Machine.Pages.{RightsMap}
+use Rattle.erim_defs.specs.Inspection.Image.{segments}
 use Rattle.erim_defs.specs.Machine.Start.{unpublished_rights, is_stack}
 use Rattle.erim_defs.proofs.ImageLemmas.{placed_in_user}
 use Rattle.erim_process.specs.ImagePages.{rights_from, rights_over}
@@ -9,8 +10,8 @@ use Rattle.erim_process.proofs.image_pages.load_pages.Goals as goal
 pub map_stack-requires-clause-unmapped : goal.map_stack-requires-clause-unmapped
 map_stack-requires-clause-unmapped g c q stack =
     ap (λ (m : RightsMap). m q) c.load_segments.ensures.rights
-    ∙ unmapped_stack c.args.segments.now c.args.trust.now c.args.trusted_data.now
-    c.args.trusted_heaps.now q (λ k d l. placed_in_user _ _ (c.requires.placed k d l)) stack
+    ∙ unmapped_stack (segments c.args.image.now) c.args.image.now q
+    (λ k d l. placed_in_user _ _ (c.load_segments.ensures.placed k d l)) stack
 
 pub returns-clause-rights : goal.returns-clause-rights
 unfolding rights_from

@@ -13,8 +13,7 @@ pub load_page-requires-clause-unmapped : goal.load_page-requires-clause-unmapped
 load_page-requires-clause-unmapped g c =
     let s = c.args.segment.now in
     let page = c.loop-page.page in
-    let new : ℕ → Rights = page_rights c.args.trust.now c.args.trusted_data.now
-    c.args.trusted_heaps.now (asked_of s) in
+    let new : ℕ → Rights = page_rights c.args.image.now (asked_of s) in
     let low : first_page s ≤ page = omega arith in
     let high : page < end_page s = omega arith in
     unmapped_next (touches s) (first_page s) page new (rights_in (g.P.Memory.seen c.args.pages.now))
@@ -27,8 +26,8 @@ loop-page-preserved g c =
     let s = c.args.segment.now in
     let page = c.loop-page.page in
     let rights : ℕ → ℕ → Rights =
-    page_rights c.args.trust.now c.args.trusted_data.now c.args.trusted_heaps.now in
-    let loaded : ByteMap = loaded_byte c.args.bytes.now s in
+    page_rights c.args.image.now in
+    let loaded : ByteMap = loaded_byte c.args.image.now s in
     let low : first_page s ≤ page = omega arith in
     record {
       rights = c.load_page.ensures.rights
@@ -39,7 +38,7 @@ loop-page-preserved g c =
           c.loop-page.invariant.rights
           ∙ rights_next (first_page s) page (rights (asked_of s))
           (rights_in (g.P.Memory.seen c.args.pages.now)) low;
-      bytes = c.load_page.ensures.bytes
+      bytes = rw c.bytes.ensures.bytes at c.load_page.ensures.bytes
           ∙ ap (λ (b : ByteMap). bytes_over (λ q. eqb q page) loaded b) c.loop-page.invariant.bytes
           ∙ bytes_next (first_page s) page loaded (g.P.Memory.bytes c.args.pages.now) low;
       frames = c.load_page.ensures.frames ∙ c.loop-page.invariant.frames;
@@ -49,8 +48,7 @@ loop-page-preserved g c =
 pub returns-clause-rights : goal.returns-clause-rights
 returns-clause-rights g c =
     let s = c.args.segment.now in
-    let new : ℕ → Rights = page_rights c.args.trust.now c.args.trusted_data.now
-    c.args.trusted_heaps.now (asked_of s) in
+    let new : ℕ → Rights = page_rights c.args.image.now (asked_of s) in
     let end : c.loop-page.page ≡ end_page s = omega arith in
     c.loop-page.invariant.rights
     ∙ ap (λ (t : ℕ → Bool). rights_over t new (rights_in (g.P.Memory.seen c.args.pages.now)))

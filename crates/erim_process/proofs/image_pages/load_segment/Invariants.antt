@@ -10,10 +10,10 @@ abbrev pub invariant-loop-page : goal.invariant-loop-page
 invariant-loop-page g l = record {
   rights : rights_in (g.P.Memory.seen l.pages)
       ≡ rights_over (is_between (first_page l.segment) l.page)
-      (page_rights l.trust l.trusted_data l.trusted_heaps (asked_of l.segment))
+      (page_rights l.image (asked_of l.segment))
       (rights_in (g.P.Memory.seen l.fn.pages));
   bytes : g.P.Memory.bytes l.pages
-      ≡ bytes_over (is_between (first_page l.segment) l.page) (loaded_byte l.bytes l.segment)
+      ≡ bytes_over (is_between (first_page l.segment) l.page) (loaded_byte l.image l.segment)
       (g.P.Memory.bytes l.fn.pages);
   frames : g.P.Memory.frames l.pages ≡ g.P.Memory.frames l.fn.pages;
   count : mapped (rights_in (g.P.Memory.seen l.pages)) + first_page l.segment

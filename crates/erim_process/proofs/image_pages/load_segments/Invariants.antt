@@ -10,8 +10,8 @@ abbrev pub invariant-loop-left : goal.invariant-loop-left
 invariant-loop-left g l = record {
   within : l.left ≤ length l.segments;
   rights : rights_in (g.P.Memory.seen l.pages)
-      ≡ segment_rights (drop l.left l.segments) l.trust l.trusted_data l.trusted_heaps;
-  bytes : g.P.Memory.bytes l.pages ≡ byte_in l.bytes (drop l.left l.segments);
+      ≡ segment_rights (drop l.left l.segments) l.image;
+  bytes : g.P.Memory.bytes l.pages ≡ byte_in l.image (drop l.left l.segments);
   frames : g.P.Memory.frames l.pages ≡ g.P.Memory.frames l.fn.pages;
   count : mapped (rights_in (g.P.Memory.seen l.pages)) ≡ sum_by page_count (drop l.left l.segments);
 }

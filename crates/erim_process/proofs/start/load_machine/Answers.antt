@@ -13,30 +13,21 @@ use Rattle.erim_process.proofs.start.load_machine.Goals as goal
 
 pub load_pages-requires-clause-room : goal.load_pages-requires-clause-room
 load_pages-requires-clause-room c =
-    let image = c.args.setup.now.image in
-    let needed = frames_needed_is image in
+    let needed = frames_needed_is c.args.setup.now.image in
     let enough = c.requires in
     let has = c.in_ok-pages.ensures.frames in
-    let same : sum_by page_count c.segments.result.now ≡ sum_by page_count (segments image) =
-    ap (λ (ss : List Segment). sum_by page_count ss) c.segments.ensures.list in
-    omega (arith, needed, enough, has, same)
+    omega (arith, needed, enough, has)
 
 pub returns-clause-state : goal.returns-clause-state
 returns-clause-state c =
     let setup = setup_of c.args.setup.now in
-    let rights = rw (
-      c.segments.ensures.list,
-      c.trust.ensures,
-      c.trusted_pages.ensures,
-      c.heaps.ensures,
-    ) at c.load_pages.ensures.rights in
-    let bytes = rw (c.bytes.ensures.bytes, c.segments.ensures.list) at c.load_pages.ensures.bytes in
-    let first = c.first_thread.ensures setup (sym c.entry.ensures) (sym c.trust-2.ensures) in
-    loaded_is setup _ _ _ _ _ (rights ∙ sym (first_rights_is setup)) (bytes
-    ∙ sym (image_byte_is setup.image))
+    let first = c.first_thread.ensures setup (sym c.entry.ensures) (sym c.trust.ensures) in
+    loaded_is setup _ _ _ _ _ _ (c.load_pages.ensures.rights ∙ sym (first_rights_is setup))
+    (c.load_pages.ensures.bytes ∙ sym (image_byte_is setup.image))
     (c.in_ok-threads.ensures ∙ ap (λ (t : Thread). t ∷ []) first)
     (ap (λ (h : HeapValue). h.blocks) c.in_ok-heap.ensures) c.in_ok-output.ensures
+    (c.first_keys.ensures setup.image (sym c.trust-2.ensures))
 
 pub new-requires-3 : goal.new-requires-3
-new-requires-3 c = subst (All EndsLow) (sym c.heaps-2.ensures)
-    (heaps_low c.args.setup.now.image c.bytes.ensures.accepted)
+new-requires-3 c = subst (All EndsLow) (sym c.heaps.ensures)
+    (heaps_low c.args.setup.now.image c.load_pages.ensures.accepted)

@@ -1,14 +1,14 @@
 use Rattle.std.proofs.Common.{[], refl}
 use Rattle.erim_defs.specs.Inspection.Check.{check_of}
 use Rattle.erim_defs.specs.Inspection.Gate.{gate_in, gate_out}
-use Rattle.erim_defs.specs.Inspection.Trust.{TrustValue}
+use Rattle.erim_defs.specs.Inspection.Trust.{TrustValue, plain_trust}
 use Rattle.erim_defs.specs.Output.MadeImage.{made_text}
 use Rattle.image_gen.proofs.made.text.Goals as goal
 
 pub returns : goal.returns
 unfolding made_text gate_in gate_out check_of
 returns c =
-    let no_trust : TrustValue = record { texts = []; entries = [] } in
+    let no_trust : TrustValue = plain_trust [] [] in
     rw (
       c.in_ok-extend_from_slice-5.ensures.items,
       c.in_ok-extend_from_slice-4.ensures.items,

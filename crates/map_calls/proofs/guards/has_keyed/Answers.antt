@@ -1,7 +1,6 @@
 use Rattle.std.proofs.Common.{◌∙◌, sym, ap, arith, inl, inr}
 use Rattle.std.proofs.lemmas.Bool.{cases_lt}
-use Rattle.erim_defs.specs.declared.page.TheConstants.{TRUSTED_KEY}
-use Rattle.erim_defs.specs.Machine.MapCalls.{has_key}
+use Rattle.map_calls.specs.Guards.{denies}
 use Rattle.map_calls.specs.Ranges.{pages_of}
 use Rattle.map_calls.proofs.RangeLemmas.{any_page_none, any_page_some}
 use Rattle.page_store.specs.Answers.{rights_in}
@@ -13,7 +12,8 @@ returns-then-is_keyed g c =
     let is = c.in-Some.ensures in
     let high = is.1 in
     let end = c.end.ensures.end in
-    sym (any_page_some (pages_of c.args.range.now) (λ q. has_key (rights q) TRUSTED_KEY)
+    sym (any_page_some (pages_of c.args.range.now) (λ q. denies c.args.trust.now c.args.pkru
+    (rights q))
     c.in-Some.page (let from = c.loop-page.invariant.from in omega (arith, from, is.0))
     (omega (arith, high, end)) (sym c.is_keyed.ensures ∙ c.if-is_keyed.true))
 
@@ -21,9 +21,11 @@ pub returns : goal.returns
 returns g c =
     let rights = rights_in (g.P.Memory.seen c.args.pages.now) in
     let end = c.end.ensures.end in
-    sym (any_page_none (pages_of c.args.range.now) (λ q. has_key (rights q) TRUSTED_KEY)
+    sym (any_page_none (pages_of c.args.range.now) (λ q. denies c.args.trust.now c.args.pkru
+    (rights q))
     (λ q low high. elim (cases_lt q c.loop-page.from) [
       | inl before ↦ c.loop-page.invariant.none q low before
       | inr behind ↦
-          ap (λ o. has_key o TRUSTED_KEY) (c.in_default.ensures q behind (omega (arith, high, end)))
+          ap (denies c.args.trust.now c.args.pkru) (c.in_default.ensures q behind (omega
+          (arith, high, end)))
     ]))

@@ -1,6 +1,5 @@
 use Rattle.std.proofs.Common.{◌≡◌, ℕ, ◌+◌, ◌-◌, ◌<◌, ◌≤◌, false}
-use Rattle.erim_defs.specs.declared.page.TheConstants.{TRUSTED_KEY}
-use Rattle.erim_defs.specs.Machine.MapCalls.{has_key}
+use Rattle.map_calls.specs.Guards.{denies}
 use Rattle.page_store.specs.Answers.{rights_in}
 use Rattle.map_calls.proofs.guards.has_keyed.Given as goal
 
@@ -8,7 +7,7 @@ abbrev pub invariant-loop-page : goal.invariant-loop-page
 invariant-loop-page g l = record {
   from : l.range.first ≤ l.from;
   none : (q : ℕ) → l.range.first ≤ q → q < l.from
-      → has_key (rights_in (g.P.Memory.seen l.pages) q) TRUSTED_KEY ≡ false;
+      → denies l.trust l.pkru (rights_in (g.P.Memory.seen l.pages) q) ≡ false;
 }
 
 abbrev pub decreases-loop-page : goal.decreases-loop-page

@@ -37,7 +37,8 @@ returns-then-has_unmapped-clause-answer g c = λ s t sees p k.
     let rights = rights_in (g.P.Memory.seen c.args.pages.now) in
     let guard = protected_seen s t r span c.args.trust.now rights c.args.pkru c.is_protected.result
     sees.trust sees.rights p is.2 c.is_protected.ensures in
-    let closed = closed_seen s t c.args.pkru c.args.key c.asks_trusted.result p
+    let closed = closed_seen s t c.args.trust.now c.args.pkru c.args.key c.asks_trusted.result
+    sees.trust p
     c.asks_trusted.ensures in
     let holes = holes_seen s r span rights c.has_unmapped.result sees.rights is.2
     c.has_unmapped.ensures in
@@ -60,7 +61,8 @@ returns-then-loses_pin-clause-answer g c = λ s t sees p k.
     let rights = rights_in (g.P.Memory.seen c.args.pages.now) in
     let guard = protected_seen s t r span c.args.trust.now rights c.args.pkru c.is_protected.result
     sees.trust sees.rights p is.2 c.is_protected.ensures in
-    let closed = closed_seen s t c.args.pkru c.args.key c.asks_trusted.result p
+    let closed = closed_seen s t c.args.trust.now c.args.pkru c.args.key c.asks_trusted.result
+    sees.trust p
     c.asks_trusted.ensures in
     let holes = holes_seen s r span rights c.has_unmapped.result sees.rights is.2
     c.has_unmapped.ensures in
@@ -84,7 +86,8 @@ returns-clause-answer g c = λ s t sees p k.
     let rights = rights_in (g.P.Memory.seen c.args.pages.now) in
     let guard = protected_seen s t r span c.args.trust.now rights c.args.pkru c.is_protected.result
     sees.trust sees.rights p is.2 c.is_protected.ensures in
-    let closed = closed_seen s t c.args.pkru c.args.key c.asks_trusted.result p
+    let closed = closed_seen s t c.args.trust.now c.args.pkru c.args.key c.asks_trusted.result
+    sees.trust p
     c.asks_trusted.ensures in
     let holes = holes_seen s r span rights c.has_unmapped.result sees.rights is.2
     c.has_unmapped.ensures in

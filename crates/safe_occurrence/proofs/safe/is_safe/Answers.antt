@@ -13,15 +13,18 @@ overflow_add-behind c =
     let inside = occurrence_inside c.args.base c.args.code.now c.args.found.now c.requires.there in
     omega (arith, inside.low, inside.high)
 
-pub check_fits-requires : goal.check_fits-requires
-check_fits-requires c =
+pub fits_check-requires : goal.fits_check-requires
+fits_check-requires c =
     let inside = occurrence_inside c.args.base c.args.code.now c.args.found.now c.requires.there in
-    let next = c.args.base + (c.args.found.now.at - c.args.base + c.args.found.now.len) in
-    let short = length-check_of c.args.trust.now c.args.found.now.kind next in
-    rw (c.check_of.ensures c.args.trust.now next) (omega (arith, inside.low, inside.high, short))
+    omega (arith, inside.low, inside.high, c.requires.user)
 
 pub overflow_add-base : goal.overflow_add-base
 overflow_add-base c =
+    let inside = occurrence_inside c.args.base c.args.code.now c.args.found.now c.requires.there in
+    omega (arith, inside.low, inside.high, c.requires.user)
+
+pub overflow_add-base-else-opens_gate : goal.overflow_add-base-else-opens_gate
+overflow_add-base-else-opens_gate c =
     let inside = occurrence_inside c.args.base c.args.code.now c.args.found.now c.requires.there in
     omega (arith, inside.low, inside.high, c.requires.user)
 
@@ -36,6 +39,6 @@ pub returns-else-opens_gate : goal.returns-else-opens_gate
 returns-else-opens_gate c =
     let inside = occurrence_inside c.args.base c.args.code.now c.args.found.now c.requires.there in
     let next = c.args.base + (c.args.found.now.at - c.args.base + c.args.found.now.len) in
-    sym (c.check_fits.ensures c.args.base) ∙ rw (c.check_of.ensures c.args.trust.now next)
+    sym (c.fits_check.ensures c.args.base) ∙
     (safe_by_check c.args.trust.now (laid_at c.args.base c.args.code.now) c.args.found.now next
     (omega (arith, inside.low)) (sym c.opens_gate.ensures ∙ c.if-opens_gate.false))

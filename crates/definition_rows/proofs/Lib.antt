@@ -1,0 +1,6 @@
+mod DomainCallRows
+pub mod DomainImages
+mod DomainImageRows
+mod DomainRows
+mod DomainStepRows
+mod WriteFaultRows
