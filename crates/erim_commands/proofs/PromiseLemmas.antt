@@ -44,7 +44,8 @@ use Rattle.erim_commands.specs.Promises.{IsReplying, IsReplied, TellsWords, Tell
 use Rattle.erim_commands.specs.Promises.{reading_refusal, refusal, IsAbout, IsRefusedAs, Shows}
 use Rattle.erim_commands.specs.Promises.{ShowsRun, ShowsReplay, ShowsRewritten}
 use Rattle.erim_commands.specs.Promises.{TellsWork, IsLoadedBy, IsSavedBy}
-use Rattle.erim_commands.specs.Promises.{GainsLoad, GainsSave, TellsFault, IsComplete}
+use Rattle.erim_commands.specs.Promises.{Does, GainsLoad, GainsSave, CountsPut, TellsFault}
+use Rattle.erim_commands.specs.Promises.{IsComplete}
 use Rattle.erim_commands.proofs.PlanLemmas.{tells_end, Always, always_replied, Failure}
 use Rattle.erim_commands.proofs.PlanLemmas.{always_failed}
 use Rattle.erim_commands.proofs.EndLemmas.{IsRead, Stops, file_end, unless_end, some_is}
@@ -246,14 +247,15 @@ tells_fault words old new status carries four =
     unkept : (save : Option Saved) → IsOwnSave words save → HasNotKept save old new
         → GainsSave words old new
     unkept None own lost = absurd lost
-    unkept (Some file) own lost = (file.name, own, lost.saves)
+    unkept (Some file) own lost = (file.name, own, lost.saves, lost.loads)
 
     by : Failure IsAnswer (IsLoadedBy words) (AnswersOwn words) old new
-        → GainsLoad words old new ⊎ (GainsSave words old new ⊎ HasRisen old.faults new.faults)
-    by (inl load) = inl (load.0, load.1, load.2.loads)
+        → GainsLoad words old new ⊎ (GainsSave words old new ⊎ CountsPut old new)
+    by (inl load) = inl (load.0, load.1, load.2.loads, load.2.saves)
     by (inr (a, own, (reply, is, inl lost))) =
         inr (inl (unkept reply.save (own reply is).save lost))
-    by (inr (a, own, (reply, is, inr cut))) = inr (inr cut.puts)
+    by (inr (a, own, (reply, is, inr cut))) =
+        inr (inr (cut.store.loads, cut.store.saves, cut.puts))
 
 -- ---- the ends of the commands' plans
 
@@ -669,25 +671,40 @@ tells_work words old new status law carries command files about taken replying =
 
 pub tells_complete : (words : Option Command) (old new : World) (status : ℕ) → AnswerLaw
     → Carries IsAnswer (plan_for words) old new status → IsComplete words old new status
-tells_complete words old new status law carries command files about taken clean =
+tells_complete words old new status law carries command files about clean =
     elim (cases_Bool (eqb status 5)) [
       | inl five ↦ inl (eqb-true _ _ five)
       | inr other ↦ elim (cases_Bool (eqb status 4)) [
         | inl four ↦ absurd (no_fault
             (tells_fault words old new status carries (eqb-true _ _ four)))
-        | inr neither ↦ inr (tells_work words old new status law carries command files about
-            taken (eqb-false _ _ neither, eqb-false _ _ other))
+        | inr neither ↦ inr (done (eqb-false _ _ neither, eqb-false _ _ other))
       ]
     ]
   where
+    by : (e : HasEnded command files old new status) → IsEnd command files e.a
+        → Does (refusal command files) command files old new status
+    by e (inl (st, text, refuses, cause, is)) =
+        (let r = one_reply e.a (told st text) e.replied.reply is e.replied.answer in
+        let does : Does (Some (told st text)) command files old new status =
+        (e.replied.code ∙ ap (λ (x : Reply). code_of x.status) r, rw r at e.replied.whole) in
+        rw cause does)
+    by e (inr (none, work)) =
+        (let does : Does None command files old new status =
+        shown command files e.a old new status law work e.replied in
+        rw none does)
+
+    done : IsReplying status → Does (refusal command files) command files old new status
+    done replying =
+        (let e = ended words command files old new status carries about replying in by e e.end)
+
     longer : (name : Name) (names more : List Name) → more ≡ names ++ name ∷ [] → more ≡ names → ⊥
     longer name names more one same =
         (let long = ap length one in
         let short = ap length same in
         omega (arith, long, short, length-append names (name ∷ [])))
 
-    no_fault : GainsLoad words old new ⊎ (GainsSave words old new ⊎ HasRisen old.faults new.faults)
+    no_fault : GainsLoad words old new ⊎ (GainsSave words old new ⊎ CountsPut old new)
         → ⊥
     no_fault (inl load) = longer load.0 _ _ load.2 clean.loads
     no_fault (inr (inl save)) = longer save.0 _ _ save.2 clean.saves
-    no_fault (inr (inr risen)) = clean.puts risen
+    no_fault (inr (inr put)) = clean.puts put.2

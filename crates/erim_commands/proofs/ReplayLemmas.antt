@@ -92,8 +92,11 @@ replays_run bytes steps frames entries last fine can own image journal files the
     let unbroken : replay_fault setup entries ≡ None = (unbroken_law setup entries).1
     (can_start setup can, (last, own.whole.runs, own.whole.over)) in
     let whole = unless_goes (replay_fault setup entries) refused_break
-    (Tell (Replayed setup entries)) files unbroken in
-    (Replayed setup entries, image_read ∙ journal_is_read ∙ again ∙ whole, only)
+    (Tell (Replayed setup entries)) files unbroken in (
+      Replayed setup entries,
+      image_read ∙ journal_is_read ∙ again ∙ whole,
+      λ r. (only r, λ is. record { last = last; whole = own.whole; answer = is }),
+    )
   where
     only : (r : Reply) → IsReplayReply (run_setup bytes steps frames) entries r
         → r ≡ replayed_reply entries last

@@ -155,12 +155,12 @@ pub record ShowsInstructions (bytes : List ℕ) (old new : World) (status : ℕ)
   pub answer : status ≡ 0
   pub text : Appends old.written new.written (disasm_text bytes)
 
--- over all files with this image and this journal, `replay` ends with this reply
+-- over all files with this image and this journal, `replay` ends with this reply and no other
 abbrev pub ReplaysTo : List ℕ → List ℕ → Reply → Type 0
 ReplaysTo bytes saved reply =
     (image journal : Name) (files : Files) → files image ≡ Some bytes → files journal ≡ Some saved
     → (a : Answer) × (end_of (plan_of (Replay image journal)) files ≡ Some a)
-    × ((r : Reply) → IsAnswer a r → r ≡ reply)
+    × ((r : Reply) → IsAnswer a r ↔ (r ≡ reply))
 
 -- the journal of a run from the setup was saved under its name, and nothing else; a text of the run
 -- was added to what was written; the status is that of its end, and 7 where it has none. To replay
@@ -258,21 +258,29 @@ IsSavedBy (Some (Rewrite image out)) name = name ≡ out
 IsSavedBy (Some (Gen seed out)) name = name ≡ out
 IsSavedBy (Some (Soak seed journal)) name = name ≡ journal
 
--- a name that the command loads joined the failed loads
+-- a name that the command loads joined the failed loads, and nothing the failed saves
 abbrev pub GainsLoad : Option Command → World → World → Type 0
 GainsLoad words old new =
-    (name : Name) × IsLoadedBy words name × (new.failed_loads ≡ old.failed_loads ++ name ∷ [])
+    (name : Name) × IsLoadedBy words name
+    × (new.failed_loads ≡ old.failed_loads ++ name ∷ []) × (new.failed_saves ≡ old.failed_saves)
 
--- a name that the command saves joined the failed saves
+-- a name that the command saves joined the failed saves, and nothing the failed loads
 abbrev pub GainsSave : Option Command → World → World → Type 0
 GainsSave words old new =
-    (name : Name) × IsSavedBy words name × (new.failed_saves ≡ old.failed_saves ++ name ∷ [])
+    (name : Name) × IsSavedBy words name
+    × (new.failed_saves ≡ old.failed_saves ++ name ∷ []) × (new.failed_loads ≡ old.failed_loads)
 
--- 4 only for a name that the command loads or saves, or where the sink's count rose
+-- a put failed: the sink's count rose, and nothing joined a list
+abbrev pub CountsPut : World → World → Type 0
+CountsPut old new =
+    (new.failed_loads ≡ old.failed_loads) × (new.failed_saves ≡ old.failed_saves)
+    × HasRisen old.faults new.faults
+
+-- 4 only where one load or one save of the command failed, or a put
 abbrev pub TellsFault : Option Command → World → World → ℕ → Type 0
 TellsFault words old new status =
     status ≡ 4
-    → GainsLoad words old new ⊎ (GainsSave words old new ⊎ HasRisen old.faults new.faults)
+    → GainsLoad words old new ⊎ (GainsSave words old new ⊎ CountsPut old new)
 
 -- no list grew, and the count of puts that failed didn't rise
 pub record IsClean (old new : World) : Type 0 where
@@ -280,9 +288,14 @@ pub record IsClean (old new : World) : Type 0 where
   pub saves : new.failed_saves ≡ old.failed_saves
   pub puts : ¬ HasRisen old.faults new.faults
 
--- without a fault a command that isn't refused does its work, unless memory runs out
+-- what a command does: it says why it does nothing, or shows what it found
+abbrev pub Does : Option Reply → Command → Files → World → World → ℕ → Type 0
+Does None command files old new status = Shows command files old new status
+Does (Some reply) command files old new status =
+    (status ≡ code_of reply.status) × IsAnswered reply old new
+
+-- without a fault a command says its refusal or does its work, unless memory runs out
 abbrev pub IsComplete : Option Command → World → World → ℕ → Type 0
 IsComplete words old new status =
-    (command : Command) (files : Files) → IsAbout words command old files
-    → refusal command files ≡ None → IsClean old new
-    → (status ≡ 5) ⊎ Shows command files old new status
+    (command : Command) (files : Files) → IsAbout words command old files → IsClean old new
+    → (status ≡ 5) ⊎ Does (refusal command files) command files old new status
