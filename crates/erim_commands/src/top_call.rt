@@ -89,8 +89,9 @@ pub fn erim_plain<S: Store, K: Sink>(
         let old = world S.Store K.Sink store.old out.old in
         TellsWork command old (world S.Store K.Sink store.new out.new) result }
 
-    // 4 only where a name that the command loads or saves joined the failed ones, or the sink's
-    // count rose.
+    // 4 only where a name that the command loads joined the failed loads and none the failed saves,
+    // one that it saves joined the failed saves and none the failed loads, or the sink's count rose
+    // and neither list grew.
     ensures fault { let command = command_of (map string_bytes words.now) in
         let old = world S.Store K.Sink store.old out.old in
         TellsFault command old (world S.Store K.Sink store.new out.new) result }
@@ -103,7 +104,7 @@ pub fn erim_plain<S: Store, K: Sink>(
     ensures memory { let old = world S.Store K.Sink store.old out.old in
         TellsMemory old (world S.Store K.Sink store.new out.new) result }
 
-    // Without a fault the work is told, unless memory runs out.
+    // Without a fault the refusal or the work is told, unless memory runs out.
     ensures complete { let command = command_of (map string_bytes words.now) in
         let old = world S.Store K.Sink store.old out.old in
         IsComplete command old (world S.Store K.Sink store.new out.new) result }
