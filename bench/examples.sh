@@ -14,8 +14,8 @@ erim=$here/../erim
 "$erim" >/dev/null # built by now
 failed=0
 
-# expect NAME END UNSAFE TEXT: the image runs to an end that begins so, writes this text, leaves no
-# trusted text open but by a gate, and has so many unsafe sequences
+# expect NAME END UNSAFE TEXT: the image runs to an end that begins so, writes this text, makes no
+# escape, and has this number of unsafe sequences
 expect() {
     "$erim" run "$folder/$1.img" "$work/journal" >"$work/report"
     printf '%b' "$4" >"$work/text"

@@ -7,7 +7,7 @@ work=$(mktemp -d) || exit 1
 trap 'rm -rf "$work"' EXIT
 "$here/../erim" >/dev/null # built by now
 for mib in 2 4 8; do
-    size=$((mib * 1048576 - 4096)) # with its headers the file has exactly so many MiB
+    size=$((mib * 1048576 - 4096)) # with its headers the file has exactly that many MiB
     : | python3 "$here/lay_image.py" "$work/zeros" $size
     python3 -c "import sys; sys.stdout.buffer.write((b'\x0f\x01\xef' * ($size // 3 + 1))[:$size])" |
         python3 "$here/lay_image.py" "$work/wrpkru" $size

@@ -2,7 +2,7 @@
 """Lays an image of one executable segment at 0x401000: lay_image.py OUT SIZE [DATA] < CODE
 
 SIZE is the segment's number of bytes, in the file and in memory; the code is filled up with zeros. With DATA there is a
-second segment at 0x1000000, of so many bytes that can be read and written, none of them in the file.
+second segment at 0x1000000, of DATA bytes that can be read and written, none of them in the file.
 """
 import struct
 import sys

@@ -3,7 +3,7 @@
 
 `make` writes DIR/0 .. DIR/COUNT-1, static images that run on Linux as they are. Each sets all registers and flags, makes
 LENGTH random steps over registers, a page and a stack, and writes that page with the registers and flags in it. Flags
-that the SDM leaves undefined are set anew by a CMP right behind. `compare` runs each image natively and by ERIM, and ends
+that the SDM leaves undefined are set anew by a CMP right after. `compare` runs each image natively and by ERIM, and ends
 with 1 where output and exit status of one differ.
 """
 import os
@@ -199,7 +199,7 @@ class Maker:
 
 
 def image(code, page):
-    """The code at CODE, and PAGE with a page for the stack behind it."""
+    """The code at CODE, and PAGE with a page for the stack after it."""
     place = 4096
     behind = place + (len(code) + 4095) // 4096 * 4096
     header = struct.pack("<4sBBB9xHHIQQQIHHHHHH", b"\x7fELF", 2, 1, 1, 2, 62, 1, CODE, 64, 0, 0, 64, 56, 2, 0, 0, 0)
@@ -232,7 +232,7 @@ def make(seed, count, length, folder):
 
 
 def emulated(erim, name):
-    """Output and exit status of `erim run`, as its report tells them; None where the process ended otherwise."""
+    """Output and exit status of `erim run`, as its report says; None where the process ended otherwise."""
     report = subprocess.run([erim, "run", name, os.devnull], capture_output=True, check=False).stdout
     head, _, rest = report.partition(b"\n")
     size = int(head.split()[1]) if head.startswith(b"output ") else 0

@@ -3,7 +3,7 @@
 rewritten images on this processor.
 
 usage: rewrite.py make SEED COUNT LENGTH FOLDER    writes COUNT programs of about LENGTH instructions
-       rewrite.py sites MIB COUNT FILE             writes an image of so many MiB with so many sites, in 4,096 functions
+       rewrite.py sites MIB COUNT FILE             writes an image of MIB MiB with COUNT sites, in 4,096 functions
        rewrite.py compare PROGRAM IMAGE..          rewrites each image with PROGRAM, runs both here, and the new one with
                                                    PROGRAM too; ends with 1 at the first difference
 """
@@ -54,7 +54,7 @@ def hiding(pick, reg):
     if kind == 1:
         return rex(1, 0, reg) + bytes([0xC7, 0xC0 | reg & 7]) + number
     filler = bytes(pick.randrange(1, 12) for _ in range(4))
-    # a number less by d keeps what stands high in it, so few hide their sequence there
+    # a number less by d keeps its high bytes, so few hide their sequence there
     return rex(1, 0, reg) + bytes([0xB8 | reg & 7]) + (number + filler if pick.randrange(50) else filler + number)
 
 
@@ -121,7 +121,7 @@ def make(seed, count, length, folder):
 
 
 def sites(mib, count, path):
-    """Functions of the same size, in so many of which one MOV hides a sequence."""
+    """Functions of the same size, in a given number of which one MOV hides a sequence."""
     functions = 4096
     size = (mib * 1048576 - 65536 - 8192) // functions
     every = functions // count if count else functions + 1

@@ -1,5 +1,5 @@
 #!/usr/bin/env python3
-"""Runs a small program of several threads in turn, so many steps of a thread in a row, and prints the report that it is to
+"""Runs a small program of several threads in time slices of QUANTUM steps, round robin, and prints the report that it is to
 have. It reads assembly, in which lines `# data ADDRESS SIZE VALUE` say what the page at 0x404000 begins with, and knows a
 handful of instructions, the calls write, sched_yield, clone, exit, gettid and exit_group, and one page of code that is
 published at the first step. The output is printed in hexadecimal digits. The tests of threads have their numbers from here.

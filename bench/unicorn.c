@@ -1,4 +1,4 @@
-// Times Unicorn on an image: unicorn IMAGE STEPS. Makes so many steps one by one, and then with a hook at each
+// Times Unicorn on an image: unicorn IMAGE STEPS. Makes that many steps one by one, and then with a hook at each
 // instruction, and prints the steps a second of both. System calls do nothing.
 #include <elf.h>
 #include <stdio.h>

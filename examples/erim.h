@@ -41,7 +41,8 @@ typedef unsigned long u64;
 // its answer. A program with DOMAIN_ENTRY or INTEGRITY has no such gate.
 #define ENTRY(name, function) GATE(#name, #function)
 
-// The heap of domain 1, of so many bytes, a multiple of 4,096. talloc gives out its blocks.
+// The heap of domain 1, of the given number of bytes, a multiple of 4,096. talloc gives out its
+// blocks.
 #define HEAP(bytes) \
     __asm__(".pushsection .trusted.heap, \"aw\", @nobits\n" \
             ".globl erim_heap\n" \
@@ -54,7 +55,8 @@ typedef unsigned long u64;
 
 // ---- system calls; an error is its number, negated
 
-// These stand where they are called, at -O0 too, so that a domain's code doesn't leave its text.
+// These are inlined where they are called, at -O0 too, so that a domain's code doesn't leave its
+// text.
 #define HERE static inline __attribute__((always_inline))
 
 HERE long call(long number, long a, long b, long c, long d) {

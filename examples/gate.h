@@ -1,7 +1,7 @@
 // The gates of trusted functions, which ordinary code calls.
 //
 // Six numbers pass as the compiler hands them over; RDX and RCX, which the gate clears for WRPKRU,
-// wait in R10 and R11. What stands after WRPKRU is an entry, and gets its record in the trust
+// wait in R10 and R11. The address after WRPKRU is an entry, and gets its record in the trust
 // note. Where a program has DOMAIN_ENTRY or INTEGRITY, the entry begins with a check: whoever jumps
 // to the WRPKRU with another value than that of this domain ends the program. A domain's code runs
 // on a stack of its own, in its data, so that nobody else can change where it returns, and one

@@ -26,7 +26,7 @@ __attribute__((noinline)) static u64 gone_far(u64 count) {
     return count;
 }
 
-// The immediate ends with 0F, and the ADD behind it is 01 EF.
+// The immediate ends with 0F, and the ADD after it is 01 EF.
 __attribute__((noinline)) static u64 added(u64 seed) {
     register u64 sum asm("rdi") = seed;
     u64 high;

@@ -2,7 +2,6 @@
 
 ghost use Rattle.std.specs.Prelude.{◌≡◌};
 ghost use Rattle.erim_defs.specs.Inspection.Gate.{gate_in, gate_out};
-ghost use Rattle.erim_defs.specs.Inspection.Trust.{TrustValue};
 
 /// `xor ecx, ecx`, `xor edx, edx`, `mov eax, 0x55555550`, `wrpkru`.
 const GATE_IN: [u8; 12] = [
@@ -19,14 +18,14 @@ const GATE_OUT: [u8; 26] = [
 /// Writes the gate into trusted text. An entry has to follow it.
 #[tactic(auto, unfolding(erim_defs::specs::Inspection::Gate::gate_in))]
 pub fn gate_in(into: &mut [u8; 12])
-    ensures { (trust : TrustValue) → into.new ≡ gate_in trust }
+    ensures { into.new ≡ gate_in }
 {
     *into = GATE_IN;
 }
 
 /// Writes the gate out of trusted text. It ends with the check.
 pub fn gate_out(into: &mut [u8; 26])
-    ensures { (trust : TrustValue) → into.new ≡ gate_out trust }
+    ensures { into.new ≡ gate_out }
 {
     *into = GATE_OUT;
 }

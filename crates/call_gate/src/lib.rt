@@ -1,7 +1,7 @@
 //! The gates into trusted text and out of it, and where the checks' instructions begin.
 //!
 //! `gate_in` and `gate_out` write the bytes of a gate, for a program that is made or rewritten.
-//! `position_in_check` says at which instruction of the check behind a sequence an address is. They
+//! `position_in_check` says at which instruction of the check after a sequence an address is. They
 //! meet the definitions of those names in `erim_defs`.
 #![tactic(auto)]
 

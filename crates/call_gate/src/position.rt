@@ -18,7 +18,7 @@ fn starts(kind: SeqKind) -> [u64; 4]
     }
 }
 
-/// The number of the instruction that begins at `rip`, in the check behind a sequence.
+/// The number of the instruction that begins at `rip`, in the check after a sequence.
 #[tactic(auto, unfolding(erim_defs::specs::Inspection::Gate::position_in_check))]
 pub fn position_in_check(found: &Found, rip: u64) -> Option<u8>
     requires { found.now.at + found.now.len ≤ 2 ^ 47 }

@@ -124,7 +124,7 @@ impl Call {
     }
 }
 
-/// Does a line of the text tell an end that begins so?
+/// Does a line of the text say an end that begins so?
 fn has_end(text: &str, end: &str) -> bool {
     for line in text.lines() {
         if let Some(told) = line.strip_prefix("end ") {

@@ -1,4 +1,4 @@
-//! Does the commands of a row, and tells what isn't as the row says.
+//! Does the commands of a row, and says what isn't as the row says.
 
 use crate::call::{Answer, Call, Text};
 use crate::draft::Draft;
@@ -48,7 +48,7 @@ fn store_of(alloc: Global, image: Vec<u8>) -> Result<MemStore, RowFault> {
 }
 
 /// The text of bytes, in which those that aren't printed, and `\`, stand as `\` with two digits.
-fn shown(alloc: Global, bytes: &[u8]) -> Result<String, RowFault> {
+fn printable(alloc: Global, bytes: &[u8]) -> Result<String, RowFault> {
     let mut text = String::new(alloc);
     for byte in bytes {
         match *byte {
@@ -64,11 +64,11 @@ fn shown(alloc: Global, bytes: &[u8]) -> Result<String, RowFault> {
 fn answer(alloc: Global, words: &[String], store: &mut MemStore) -> Result<Answer, RowFault> {
     let mut out = MemSink::new(alloc, Vec::new(alloc), ROOM)?;
     let status = erim_plain(alloc, words, store, &mut out);
-    let text = shown(alloc, out.written())?;
+    let text = printable(alloc, out.written())?;
     Ok(Answer { status, text })
 }
 
-/// Has the saved journal so many entries? None is saved where there are none.
+/// Has the saved journal a given number of entries? None is saved where there are none.
 fn is_journal(alloc: Global, store: &mut MemStore, entries: usize) -> Result<bool, RowFault> {
     let mut journal = Vec::new(alloc);
     match store.load("journal", u64::MAX, &mut journal) {
@@ -78,7 +78,7 @@ fn is_journal(alloc: Global, store: &mut MemStore, entries: usize) -> Result<boo
     }
 }
 
-/// Tells what was expected.
+/// Says what was expected.
 fn tell_expected(told: &mut String, call: &Call) -> Result<(), RowFault> {
     if let Some(status) = call.status {
         writeln!(told, "expected status {status}")?;
@@ -95,7 +95,7 @@ fn tell_expected(told: &mut String, call: &Call) -> Result<(), RowFault> {
     Ok(())
 }
 
-/// Tells what was expected and what came.
+/// Says what was expected and what came.
 fn tell_difference(told: &mut String, call: &Call, came: &Answer) -> Result<(), RowFault> {
     writeln!(told, "{}: differs", call.line.as_str())?;
     tell_expected(told, call)?;
@@ -125,7 +125,7 @@ fn do_call(
     Ok(came)
 }
 
-/// Does the commands of a row, one after the other on the same files, and tells what differs.
+/// Does the commands of a row, one after the other on the same files, and says what differs.
 pub fn do_row<R: Files>(
     alloc: Global,
     rt: &R,

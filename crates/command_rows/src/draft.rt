@@ -1,4 +1,4 @@
-//! The image of a row, as its lines tell it.
+//! The image of a row, as its lines give it.
 
 ghost use Rattle.std.specs.Prelude.{◌≤◌, ◌*◌, length, IfOk};
 ghost use Rattle.image_gen.specs.Parts.{total_bytes};
@@ -64,7 +64,7 @@ impl Draft {
             "record" => self.push_record(rest)?,
             "function" => self.push_function(rest)?,
             "version" => self.version = low_number(rest)?,
-            "start" => self.entry = needed(one_number(rest))?,
+            "start" => self.entry = required(one_number(rest))?,
             _ => return Ok(false),
         }
         Ok(true)
@@ -107,7 +107,7 @@ impl Draft {
         let Some((key, rest)) = number(rest) else {
             return Err(RowFault::Shape("no key"));
         };
-        let (start, length) = needed(two_numbers(rest))?;
+        let (start, length) = required(two_numbers(rest))?;
         self.push_mark(kind, key, start, length)
     }
 
@@ -116,7 +116,7 @@ impl Draft {
         match number(rest) {
             Some((key, "")) if kind == INTEGRITY_DOMAIN => self.push_mark(kind, key, 0, 0),
             Some((key, start)) if kind == TRUSTED_ENTRY => {
-                self.push_mark(kind, key, needed(one_number(start))?, 0)
+                self.push_mark(kind, key, required(one_number(start))?, 0)
             }
             _ => Err(RowFault::Shape("another number of numbers")),
         }
@@ -142,7 +142,7 @@ impl Draft {
 
     /// A function: its start and length.
     fn push_function(&mut self, rest: &str) -> Result<(), RowFault> {
-        let (start, length) = needed(two_numbers(rest))?;
+        let (start, length) = required(two_numbers(rest))?;
         Ok(self.functions.push(Span { start, length })?)
     }
 
@@ -170,7 +170,7 @@ impl Draft {
 }
 
 /// The value, or the row's fault.
-fn needed<T>(value: Option<T>) -> Result<T, RowFault> {
+fn required<T>(value: Option<T>) -> Result<T, RowFault> {
     value.ok_or(RowFault::Shape("another number of numbers"))
 }
 

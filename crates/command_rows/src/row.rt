@@ -6,7 +6,7 @@ use crate::fault::RowFault;
 use crate::words::word;
 use std::alloc::Global;
 
-/// A row as its lines tell it.
+/// A row as its lines give it.
 #[derive(Drop)]
 pub struct Row {
     pub name: String,
@@ -17,7 +17,7 @@ pub struct Row {
 }
 
 impl Row {
-    /// A row of which nothing is told yet.
+    /// A row of which nothing is said yet.
     pub fn new(alloc: Global) -> Row {
         Row {
             name: String::new(alloc),

@@ -17,7 +17,7 @@ fn is_bare(stretch: &str) -> bool {
     true
 }
 
-/// Reads a row, and tells the line that it can't take.
+/// Reads a row, and says the line that it can't take.
 fn read_row(
     alloc: Global,
     stretch: &str,
@@ -59,7 +59,7 @@ fn try_row<R: Files>(
     Ok(name)
 }
 
-/// Tells a fault but want of memory.
+/// Prints a fault, unless memory ran out.
 fn tell_fault(outcome: Result<(), RowFault>, told: &mut String) -> Result<(), RowFault> {
     match outcome {
         Err(RowFault::Shape(what)) => Ok(writeln!(told, "{what}")?),

@@ -15,7 +15,7 @@ use Rattle.clap.specs.Walk.{Row}
 use Rattle.clap.specs.declared.parser.matches.ArgMatches.{ArgMatches}
 use Rattle.erim_defs.specs.Output.WordForms.{Text, Given, is_numeral, number_of, word_of}
 use Rattle.erim_defs.specs.Output.WordForms.{given_by}
-use Rattle.erim_defs.specs.Output.Words.{Command, Usage, meant, number_or}
+use Rattle.erim_defs.specs.Output.Words.{Command, Usage, command_by, number_or}
 use Rattle.command_words.specs.Clap.{IsRead, HasGiven, row_for}
 
 pub both : (a b : Bool) → (a && b) ≡ true → (a ≡ true) × (b ≡ true)
@@ -73,7 +73,7 @@ first_given m given name has =
 
 -- no matches: the usage means nothing by these words
 pub read_none : (u : Usage) (words : List Text) → IsRead (given_by u.form words) None
-    → None ≡ meant words u
+    → None ≡ command_by words u
 read_none u words read = by (given_by u.form words) read
   where
     by : (r : Option Given) → IsRead r None → None ≡ option_map u.means r
@@ -84,7 +84,7 @@ read_none u words read = by (given_by u.form words) read
 pub read_some : (u : Usage) (words : List Text) (m : ArgMatches) (command : Command)
     → IsRead (given_by u.form words) (Some m)
     → ((given : Given) → HasGiven given m → command ≡ u.means given)
-    → Some command ≡ meant words u
+    → Some command ≡ command_by words u
 read_some u words m command read is = by (given_by u.form words) read
   where
     by : (r : Option Given) → IsRead r (Some m) → Some command ≡ option_map u.means r

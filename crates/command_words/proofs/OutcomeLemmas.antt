@@ -302,7 +302,7 @@ ok_is f is words utf8 m faultless matches = by (given_by f words) refl
         absurd cc
     by (Some given) read = (matches (just_simple f)).0 ∙ matches_are f is words given utf8 read
 
--- an error that isn't want of memory comes where the words give nothing
+-- an error that isn't out of memory comes where the words give nothing
 pub err_is : (f : Form) → IsForm f → (words : List Text) → AllByRecursion IsUtf8 words → (e : Error)
     → (kind_of e ≡ OutOfMemory → ⊥) → HasKind (fault_of (app_for f) words) e
     → IsRead (given_by f words) None

@@ -1,5 +1,5 @@
 -- `clap`'s walk over the words keeps step with the reading of `erim_defs`. `clap` settles an
--- argument at the word behind it, where the reading gives it at once.
+-- argument at the word after it, where the reading gives it at once.
 use Rattle.std.proofs.Common.{◌≡◌, ◌∙◌, ℕ, ◌&&◌, ◌||◌, Bool, true, false, cond, List, [], ◌∷◌, ◌++◌}
 use Rattle.std.proofs.Common.{length, find, Option, Some, None, refl, sym, ap, subst}
 use Rattle.std.specs.Prelude.{slice_get, is_some}
@@ -108,7 +108,7 @@ module _ (c : List Rule) (options : List Slot) where
       (given : Given) (d : Bool) → Standing c mode rows pending given d → Ahead c place left
       → Ends c (walk_in mode rows pending place) words (read mode left given words) d
 
-  -- it does where operands may stand, behind `--` or not
+  -- it does where operands may stand, after `--` or not
   abbrev Goes : Bool → List Text → Type 0
   Goes trail words =
       (rows : List Row) (pending : Pending) (place : ℕ) (left : List Slot) (given : Given)
@@ -188,7 +188,7 @@ module _ (c : List Rule) (options : List Slot) where
       by None some = absurd cc
       by (Some x) some = rw (short x) refl
 
-  -- behind `--`, what can't be settled shows
+  -- after `--`, what can't be settled shows
   bad_tail : (waiting : Waiting) (rows : List Row) (pending : Pending) (place : ℕ)
       (left : List Slot) (words : List Text) → settles c (held rows pending) ≡ false
       → Ahead c place left → pass c (standing waiting true rows pending place) words ≡ false
@@ -217,7 +217,7 @@ module _ (c : List Rule) (options : List Slot) where
   ended (Value s) rows pending place left given d stands ahead =
       record { pass = bare s rows stands.is.0 ∙ sym (and_false d); rows = λ _. tt }
 
-  -- ---- a word behind `--`
+  -- ---- a word after `--`
 
   rest_turn : (word : Text) (words : List Text) (rows : List Row) (pending : Pending) (place : ℕ)
       (left : List Slot) (given : Given) (d : Bool) → Keeps words

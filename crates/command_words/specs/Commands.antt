@@ -1,5 +1,7 @@
 -- A command of the code: which command it means, and the ranges of its numbers. Own.
 use Rattle.std.specs.Prelude.{◌≤◌, ⊤, ℕ}
+use Rattle.erim_defs.specs.declared.limits.TheConstants.{LEAST_FRAMES, MOST_FRAMES, MOST_STEPS}
+use Rattle.erim_defs.specs.declared.limits.TheConstants.{MOST_WORKERS}
 use Rattle.erim_defs.specs.Output.Words.{Command as Meant, Inspect, Disasm, Run, Replay, Rewrite}
 use Rattle.erim_defs.specs.Output.Words.{Gen, Soak}
 use Rattle.command_words.specs.declared.command.Command.{Command}
@@ -18,11 +20,11 @@ meaning (code.Soak seed journal) = Soak seed journal.now
 -- a run has 1 to 8 workers, 1 to 4,194,304 steps, and 64 to 4,096 frames
 pub record AreRunNumbers (workers steps frames : ℕ) : Type 0 where
   pub workers_least : 1 ≤ workers
-  pub workers_most : workers ≤ 8
+  pub workers_most : workers ≤ MOST_WORKERS
   pub steps_least : 1 ≤ steps
-  pub steps_most : steps ≤ 4194304
-  pub frames_least : 64 ≤ frames
-  pub frames_most : frames ≤ 4096
+  pub steps_most : steps ≤ MOST_STEPS
+  pub frames_least : LEAST_FRAMES ≤ frames
+  pub frames_most : frames ≤ MOST_FRAMES
 
 abbrev pub HasNumbers : Command → Type 0
 HasNumbers (code.Inspect image) = ⊤

@@ -103,8 +103,8 @@ fn check_text(words: &[String])
 
 /// What the words give for these operands and options, or none where they don't fit.
 ///
-/// Fails for want of memory alone.
-pub(crate) fn given<'a>(
+/// Fails only where memory ran out.
+pub(crate) fn read_operands<'a>(
     alloc: Global,
     operands: &[Slot],
     options: &[Slot],

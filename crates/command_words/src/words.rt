@@ -3,15 +3,18 @@
 ghost use Rattle.std.specs.Prelude.{◌≡◌, map, find, bytes_eq, IfOk, IfSome};
 ghost use Rattle.std.specs.Option.{option_map, option_and_then};
 ghost use Rattle.std.specs.String.{string_bytes};
-ghost use Rattle.erim_defs.specs.Output.Words.{meant, command_of, usages, inspect_usage};
+ghost use Rattle.erim_defs.specs.Output.Words.{command_by, command_of, usages, inspect_usage};
 ghost use Rattle.erim_defs.specs.Output.Words.{disasm_usage, run_usage, replay_usage, gen_usage};
 ghost use Rattle.erim_defs.specs.Output.Words.{rewrite_usage, soak_usage};
 ghost use Rattle.command_words.specs.Commands.{HasNumbers, meaning};
 
 use crate::command::Command;
-use crate::reading::{given, text, value};
+use crate::reading::{read_operands, text, value};
 use crate::slot::{Kind, Slot};
 use erim_defs::NoMemory;
+use erim_defs::limits::{
+    LEAST_FRAMES, MOST_FRAMES, MOST_STEPS, MOST_WORKERS, USUAL_FRAMES, USUAL_STEPS, USUAL_WORKERS,
+};
 use std::alloc::Global;
 
 /// The commands with their operands and options: what is shown where the words mean none.
@@ -28,7 +31,7 @@ steps: 1 to 4,194,304, or 1,000,000 if not given
 frames: 64 to 4,096, or 1,024 if not given
 SEED: below 2^64
 Numbers are decimal digits, without commas. Options may stand before operands, and --workers=N is
---workers N. Behind -- each word is an operand.
+--workers N. After -- each word is an operand.
 ";
 
 const IMAGE: Slot = Slot {
@@ -56,32 +59,44 @@ const SEED: Slot = Slot {
 
 const WORKERS: Slot = Slot {
     name: "workers",
-    kind: Kind::Number { least: 1, most: 8 },
+    kind: Kind::Number {
+        least: 1,
+        most: MOST_WORKERS as u64,
+    },
 };
 
 const STEPS: Slot = Slot {
     name: "steps",
     kind: Kind::Number {
         least: 1,
-        most: 4_194_304,
+        most: MOST_STEPS as u64,
     },
 };
 
 const FRAMES: Slot = Slot {
     name: "frames",
     kind: Kind::Number {
-        least: 64,
-        most: 4096,
+        least: LEAST_FRAMES as u64,
+        most: MOST_FRAMES as u64,
     },
 };
+
+/// The workers of `run` if its words give none.
+const DEFAULT_WORKERS: u64 = USUAL_WORKERS as u64;
+
+/// Its steps then.
+const DEFAULT_STEPS: u64 = USUAL_STEPS as u64;
+
+/// Its frames.
+const DEFAULT_FRAMES: u64 = USUAL_FRAMES as u64;
 
 /// The command `inspect` with its words.
 fn inspect_of<'a>(alloc: Global, words: &'a [String]) -> Result<Option<Command<'a>>, NoMemory>
     ensures meant { IfOk result (λ command.
-        option_map meaning command ≡ meant (map string_bytes words.entry.now) inspect_usage) }
+        option_map meaning command ≡ command_by (map string_bytes words.entry.now) inspect_usage) }
     ensures numbers { IfOk result (λ command. IfSome command HasNumbers) }
 {
-    match given(alloc, &[IMAGE], &[], words)? {
+    match read_operands(alloc, &[IMAGE], &[], words)? {
         Some(found) => Ok(Some(Command::Inspect {
             image: text(&found, &IMAGE),
         })),
@@ -92,10 +107,10 @@ fn inspect_of<'a>(alloc: Global, words: &'a [String]) -> Result<Option<Command<'
 /// The command `disasm` with its words.
 fn disasm_of<'a>(alloc: Global, words: &'a [String]) -> Result<Option<Command<'a>>, NoMemory>
     ensures meant { IfOk result (λ command.
-        option_map meaning command ≡ meant (map string_bytes words.entry.now) disasm_usage) }
+        option_map meaning command ≡ command_by (map string_bytes words.entry.now) disasm_usage) }
     ensures numbers { IfOk result (λ command. IfSome command HasNumbers) }
 {
-    match given(alloc, &[IMAGE], &[], words)? {
+    match read_operands(alloc, &[IMAGE], &[], words)? {
         Some(found) => Ok(Some(Command::Disasm {
             image: text(&found, &IMAGE),
         })),
@@ -106,16 +121,16 @@ fn disasm_of<'a>(alloc: Global, words: &'a [String]) -> Result<Option<Command<'a
 /// The command `run` with its words.
 fn run_of<'a>(alloc: Global, words: &'a [String]) -> Result<Option<Command<'a>>, NoMemory>
     ensures meant { IfOk result (λ command.
-        option_map meaning command ≡ meant (map string_bytes words.entry.now) run_usage) }
+        option_map meaning command ≡ command_by (map string_bytes words.entry.now) run_usage) }
     ensures numbers { IfOk result (λ command. IfSome command HasNumbers) }
 {
-    match given(alloc, &[IMAGE, JOURNAL], &[WORKERS, STEPS, FRAMES], words)? {
+    match read_operands(alloc, &[IMAGE, JOURNAL], &[WORKERS, STEPS, FRAMES], words)? {
         Some(found) => Ok(Some(Command::Run {
             image: text(&found, &IMAGE),
             journal: text(&found, &JOURNAL),
-            workers: value(&found, &WORKERS, 4) as u8,
-            steps: value(&found, &STEPS, 1_000_000) as u32,
-            frames: value(&found, &FRAMES, 1024) as u32,
+            workers: value(&found, &WORKERS, DEFAULT_WORKERS) as u8,
+            steps: value(&found, &STEPS, DEFAULT_STEPS) as u32,
+            frames: value(&found, &FRAMES, DEFAULT_FRAMES) as u32,
         })),
         None => Ok(None),
     }
@@ -124,10 +139,10 @@ fn run_of<'a>(alloc: Global, words: &'a [String]) -> Result<Option<Command<'a>>,
 /// The command `replay` with its words.
 fn replay_of<'a>(alloc: Global, words: &'a [String]) -> Result<Option<Command<'a>>, NoMemory>
     ensures meant { IfOk result (λ command.
-        option_map meaning command ≡ meant (map string_bytes words.entry.now) replay_usage) }
+        option_map meaning command ≡ command_by (map string_bytes words.entry.now) replay_usage) }
     ensures numbers { IfOk result (λ command. IfSome command HasNumbers) }
 {
-    match given(alloc, &[IMAGE, JOURNAL], &[], words)? {
+    match read_operands(alloc, &[IMAGE, JOURNAL], &[], words)? {
         Some(found) => Ok(Some(Command::Replay {
             image: text(&found, &IMAGE),
             journal: text(&found, &JOURNAL),
@@ -139,10 +154,10 @@ fn replay_of<'a>(alloc: Global, words: &'a [String]) -> Result<Option<Command<'a
 /// The command `rewrite` with its words.
 fn rewrite_of<'a>(alloc: Global, words: &'a [String]) -> Result<Option<Command<'a>>, NoMemory>
     ensures meant { IfOk result (λ command.
-        option_map meaning command ≡ meant (map string_bytes words.entry.now) rewrite_usage) }
+        option_map meaning command ≡ command_by (map string_bytes words.entry.now) rewrite_usage) }
     ensures numbers { IfOk result (λ command. IfSome command HasNumbers) }
 {
-    match given(alloc, &[IMAGE, OUT], &[], words)? {
+    match read_operands(alloc, &[IMAGE, OUT], &[], words)? {
         Some(found) => Ok(Some(Command::Rewrite {
             image: text(&found, &IMAGE),
             out: text(&found, &OUT),
@@ -154,10 +169,10 @@ fn rewrite_of<'a>(alloc: Global, words: &'a [String]) -> Result<Option<Command<'
 /// The command `gen` with its words.
 fn gen_of<'a>(alloc: Global, words: &'a [String]) -> Result<Option<Command<'a>>, NoMemory>
     ensures meant { IfOk result (λ command.
-        option_map meaning command ≡ meant (map string_bytes words.entry.now) gen_usage) }
+        option_map meaning command ≡ command_by (map string_bytes words.entry.now) gen_usage) }
     ensures numbers { IfOk result (λ command. IfSome command HasNumbers) }
 {
-    match given(alloc, &[SEED, OUT], &[], words)? {
+    match read_operands(alloc, &[SEED, OUT], &[], words)? {
         Some(found) => Ok(Some(Command::Gen {
             seed: value(&found, &SEED, 0),
             out: text(&found, &OUT),
@@ -169,10 +184,10 @@ fn gen_of<'a>(alloc: Global, words: &'a [String]) -> Result<Option<Command<'a>>,
 /// The command `soak` with its words.
 fn soak_of<'a>(alloc: Global, words: &'a [String]) -> Result<Option<Command<'a>>, NoMemory>
     ensures meant { IfOk result (λ command.
-        option_map meaning command ≡ meant (map string_bytes words.entry.now) soak_usage) }
+        option_map meaning command ≡ command_by (map string_bytes words.entry.now) soak_usage) }
     ensures numbers { IfOk result (λ command. IfSome command HasNumbers) }
 {
-    match given(alloc, &[SEED, JOURNAL], &[], words)? {
+    match read_operands(alloc, &[SEED, JOURNAL], &[], words)? {
         Some(found) => Ok(Some(Command::Soak {
             seed: value(&found, &SEED, 0),
             journal: text(&found, &JOURNAL),
@@ -181,15 +196,15 @@ fn soak_of<'a>(alloc: Global, words: &'a [String]) -> Result<Option<Command<'a>>
     }
 }
 
-/// The command of this word, with the words behind it.
-fn named<'a>(
+/// The command of this word, with the words after it.
+fn command_named<'a>(
     alloc: Global,
     word: &str,
     words: &'a [String],
 ) -> Result<Option<Command<'a>>, NoMemory>
     ensures meant { IfOk result (λ command. let others = map string_bytes words.entry.now in
         option_map meaning command
-        ≡ option_and_then (meant others) (find (λ u. bytes_eq word.now u.word) usages)) }
+        ≡ option_and_then (command_by others) (find (λ u. bytes_eq word.now u.word) usages)) }
     ensures numbers { IfOk result (λ command. IfSome command HasNumbers) }
 {
     if word == "inspect" {
@@ -219,7 +234,7 @@ fn named<'a>(
 /// The command that the words mean, if they mean one. The first word is the program's name,
 /// whatever it is.
 ///
-/// Fails for want of memory alone.
+/// Fails only where memory ran out.
 #[tactic(auto, unfolding(erim_defs::specs::Output::Words::command_of))]
 pub fn command_of<'a>(alloc: Global, words: &'a [String]) -> Result<Option<Command<'a>>, NoMemory>
     ensures meant { IfOk result (λ command.
@@ -227,7 +242,7 @@ pub fn command_of<'a>(alloc: Global, words: &'a [String]) -> Result<Option<Comma
     ensures numbers { IfOk result (λ command. IfSome command HasNumbers) }
 {
     match words {
-        [_program, command, others @ ..] => named(alloc, command.as_str(), others),
+        [_program, command, others @ ..] => command_named(alloc, command.as_str(), others),
         _ => Ok(None),
     }
 }

@@ -1,23 +1,23 @@
--- Which bytes 90 a run's copy has before it, by trying one number of them after the other.
+-- Which NOPs a region's copy has before it, by trying one number of them after the other.
 use Rattle.std.proofs.Common.{◌≡◌, ℕ, ◌<◌, Some, None, true, false, refl, ap}
 use Rattle.std.proofs.Common.{inl, inr, subst, sym}
 use Rattle.std.proofs.lemmas.Bool.{cases_Bool}
-use Rattle.erim_defs.specs.Rewriting.Sites.{Run}
+use Rattle.erim_defs.specs.Rewriting.Sites.{Region}
 use Rattle.erim_defs.specs.Rewriting.Layout.{Copy, candidate, if_spelled, is_clean, is_spelled}
-use Rattle.erim_defs.specs.Rewriting.Layout.{padded}
+use Rattle.erim_defs.specs.Rewriting.Layout.{padded_copy}
 use Rattle.erim_defs.proofs.LeastLemmas.{least_found, least_none}
 use Rattle.copy_layout.specs.Trials.{Trial, ends_trial, placed_in, trial_first, tried_code}
 
--- the candidate behind so many
-abbrev pub candidate_in : Trial → Run → ℕ → Copy
+-- the candidate after so many
+abbrev pub candidate_in : Trial → Region → ℕ → Copy
 candidate_in t r pad = candidate r (trial_first t) pad
 
 -- the first at which the trying ends decides
-decides : (t : Trial) (r : Run) (pad : ℕ) → pad < 16 → ends_trial t (candidate_in t r pad) ≡ true
+decides : (t : Trial) (r : Region) (pad : ℕ) → pad < 16 → ends_trial t (candidate_in t r pad) ≡ true
     → ((k : ℕ) → k < pad → ends_trial t (candidate_in t r k) ≡ false)
     → placed_in t r ≡ if_spelled (candidate_in t r pad)
 decides t r pad low ends others =
-    ap (padded r (trial_first t))
+    ap (padded_copy r (trial_first t))
     (least_found 16 pad (λ n. ends_trial t (candidate_in t r n)) low ends others)
 
 unspelled : (k : Copy) → if_spelled k ≡ None → is_spelled k ≡ false
@@ -33,7 +33,7 @@ spelled k c some = elim (cases_Bool (is_spelled k)) [
 ]
 
 -- it can't be spelled
-pub placed_none : (t : Trial) (r : Run) (pad : ℕ) → pad < 16
+pub placed_none : (t : Trial) (r : Region) (pad : ℕ) → pad < 16
     → if_spelled (candidate_in t r pad) ≡ None
     → ((k : ℕ) → k < pad → ends_trial t (candidate_in t r k) ≡ false) → placed_in t r ≡ None
 placed_none t r pad low none others =
@@ -43,7 +43,7 @@ placed_none t r pad low none others =
     rw (decides t r pad low ends others) none
 
 -- it is clean
-pub placed_clean : (t : Trial) (r : Run) (pad : ℕ) (c : Copy) → pad < 16
+pub placed_clean : (t : Trial) (r : Region) (pad : ℕ) (c : Copy) → pad < 16
     → if_spelled (candidate_in t r pad) ≡ Some c → is_clean (tried_code t c) c ≡ true
     → ((k : ℕ) → k < pad → ends_trial t (candidate_in t r k) ≡ false) → placed_in t r ≡ Some c
 placed_clean t r pad c low some clean others =
@@ -56,7 +56,7 @@ placed_clean t r pad c low some clean others =
     rw (decides t r pad low ends others) some
 
 -- it is neither, so the next is tried
-pub not_clean : (t : Trial) (r : Run) (pad : ℕ) (c : Copy)
+pub not_clean : (t : Trial) (r : Region) (pad : ℕ) (c : Copy)
     → if_spelled (candidate_in t r pad) ≡ Some c → is_clean (tried_code t c) c ≡ false
     → ends_trial t (candidate_in t r pad) ≡ false
 not_clean t r pad c some unclean =
@@ -68,9 +68,10 @@ not_clean t r pad c some unclean =
     rw (is, here) refl
 
 -- none is
-pub placed_never : (t : Trial) (r : Run)
+pub placed_never : (t : Trial) (r : Region)
     → ((k : ℕ) → k < 16 → ends_trial t (candidate_in t r k) ≡ false) → placed_in t r ≡ None
 placed_never t r others =
-    ap (padded r (trial_first t)) (least_none 16 (λ n. ends_trial t (candidate_in t r n)) others)
+    ap (padded_copy r (trial_first t)) (least_none 16 (λ n. ends_trial t
+    (candidate_in t r n)) others)
 
 pub ruleset placed_steps = (placed_none, placed_clean, placed_never)

@@ -1,4 +1,4 @@
--- A candidate among others: the zeros behind it, and the patches near some addresses.
+-- A candidate among others: the zeros after it, and the patches near some addresses.
 use Rattle.std.proofs.Common.{◌≡◌, ℕ, ◌+◌, ◌-◌, ◌<◌, ◌≤◌, ◌∙◌, List, [], ◌∷◌}
 use Rattle.std.proofs.Common.{◌++◌, length, map, Option, Some, None, true, false, refl}
 use Rattle.std.proofs.Common.{sym, ap, arith, inl, inr, ltb, leb, append_assoc}
@@ -9,20 +9,20 @@ use Rattle.std.proofs.lemmas.Option.{slice_get-map, slice_get-get_or, slice_get_
 use Rattle.erim_defs.specs.Inspection.Code.{Code, laid_at, or_else}
 use Rattle.erim_defs.specs.Output.LayImage.{multiple_from}
 use Rattle.erim_defs.specs.Rewriting.Layout.{Copy, Patch, covers, over, over_all}
-use Rattle.erim_defs.specs.Rewriting.Layout.{run_patch}
-use Rattle.copy_layout.specs.declared.patch.RunPatch.{RunPatch}
+use Rattle.erim_defs.specs.Rewriting.Layout.{region_patch}
+use Rattle.copy_layout.specs.declared.patch.RegionPatch.{RegionPatch}
 use Rattle.copy_layout.specs.Patches.{cell, cell_or, first_cell, lies_near, nearby, patches_of}
-use Rattle.copy_layout.specs.Trials.{Trial, near_patches, zeros_after}
+use Rattle.copy_layout.specs.Trials.{Trial, near_patches, trial_zeros}
 
 -- ---- zeros
 
-pub zeros_last : (n : ℕ) (ps : List RunPatch) → length ps ≡ 0
-    → zeros_after n (patches_of ps) ≡ multiple_from 4096 n - n
+pub zeros_last : (n : ℕ) (ps : List RegionPatch) → length ps ≡ 0
+    → trial_zeros n (patches_of ps) ≡ multiple_from 4096 n - n
 zeros_last n [] none = refl
 zeros_last n (p ∷ ps) none = absurd (omega arith)
 
-pub zeros_more : (n : ℕ) (ps : List RunPatch) → 0 < length ps
-    → zeros_after n (patches_of ps) ≡ multiple_from 4096 n - n + 4096
+pub zeros_more : (n : ℕ) (ps : List RegionPatch) → 0 < length ps
+    → trial_zeros n (patches_of ps) ≡ multiple_from 4096 n - n + 4096
 zeros_more n [] some = absurd (omega arith)
 zeros_more n (p ∷ ps) some = refl
 
@@ -36,15 +36,15 @@ nearby_append low high (p ∷ ps) qs = elim (cases_Bool (lies_near low high p)) 
   | inr not_near ↦ rw (not_near, nearby_append low high ps qs) refl
 ]
 
--- they are those before, the candidate's and those behind
+-- they are those before, the candidate's and those after
 pub near_parts : (t : Trial) (k : Copy) (low high : ℕ)
     → near_patches t k low high
-    ≡ (nearby low high t.before ++ nearby low high (run_patch k ∷ []))
+    ≡ (nearby low high t.before ++ nearby low high (region_patch k ∷ []))
     ++ nearby low high t.after
-near_parts t k low high = nearby_append low high t.before (run_patch k ∷ t.after)
+near_parts t k low high = nearby_append low high t.before (region_patch k ∷ t.after)
     ∙ ap (λ (xs : List Patch). nearby low high t.before ++ xs)
-    (nearby_append low high (run_patch k ∷ []) t.after)
-    ∙ sym (append_assoc (nearby low high t.before) (nearby low high (run_patch k ∷ []))
+    (nearby_append low high (region_patch k ∷ []) t.after)
+    ∙ sym (append_assoc (nearby low high t.before) (nearby low high (region_patch k ∷ []))
     (nearby low high t.after))
 
 -- a patch that isn't near covers no address there

@@ -2,18 +2,18 @@
 use Rattle.std.specs.Prelude.{ℕ, ◌+◌, ◌-◌, ◌&&◌, nat_lt, Bool, List, [], ◌∷◌, ◌++◌, length, map}
 use Rattle.std.specs.Prelude.{replicate, slice_get, Option, Some, None, if◌then◌else◌}
 use Rattle.erim_defs.specs.Inspection.Code.{or_else}
-use Rattle.erim_defs.specs.Rewriting.Layout.{Patch, covers, joined}
-use Rattle.copy_layout.specs.declared.patch.RunPatch.{RunPatch}
+use Rattle.erim_defs.specs.Rewriting.Layout.{Patch, covers, flatten}
+use Rattle.copy_layout.specs.declared.patch.RegionPatch.{RegionPatch}
 
-abbrev pub patch_of : RunPatch → Patch
+abbrev pub patch_of : RegionPatch → Patch
 patch_of p = record { at = p.at; bytes = p.jump ++ replicate p.rest (Some 0x90) }
 
-abbrev pub patches_of : List RunPatch → List Patch
+abbrev pub patches_of : List RegionPatch → List Patch
 patches_of ps = map patch_of ps
 
 -- what a patch says of the byte at an address, where it covers it
 abbrev pub cell : Patch → ℕ → Option (Option ℕ)
-cell p a = if covers p a then Some (joined (slice_get p.bytes (a - p.at))) else None
+cell p a = if covers p a then Some (flatten (slice_get p.bytes (a - p.at))) else None
 
 -- it has a byte from an address up to another
 abbrev pub lies_near : ℕ → ℕ → Patch → Bool

@@ -9,7 +9,7 @@ use erim_defs::Segment;
 use erim_defs::limits::MOST_PAGES;
 use erim_defs::page::PAGE_SIZE;
 
-/// The page behind the highest of an executable segment.
+/// The page after the highest of an executable segment.
 fn high_page(image: &Image) -> u64
     ensures page { result ≡ high_page (segments image.now) }
     ensures low { result ≤ 2 ^ 35 }

@@ -1,4 +1,4 @@
-//! Whether the bytes of a run lie elsewhere in the file too.
+//! Whether the bytes of a region lie elsewhere in the file too.
 
 ghost use Rattle.std.specs.Prelude.{◌≡◌, ◌<◌, ◌^◌, count_by, nat_lt};
 ghost use Rattle.std.specs.List.{list_any};
@@ -10,7 +10,7 @@ ghost use Rattle.erim_defs.specs.Rewriting.NewFile.{meets, meets_as};
 use elf_image::{Header, Image};
 use erim_defs::Segment;
 use erim_defs::elf::{FILE_HEADER_SIZE, PT_LOAD, PT_NOTE};
-use rewrite_sites::Run;
+use rewrite_sites::Region;
 
 /// Does an address lie in the file part of an executable segment? Neither end is made.
 fn has_in_file(a: u64, segment: &Segment) -> bool
@@ -70,13 +70,13 @@ fn in_other_part(table: &[Header], low: u64, high: u64) -> bool
         > 1
 }
 
-/// Has the file header, a PT_NOTE or another PT_LOAD a byte of the run in the file?
+/// Has the file header, a PT_NOTE or another PT_LOAD a byte of the region in the file?
 #[tactic(auto, unfolding(erim_defs::specs::Rewriting::NewFile::lies_elsewhere))]
-pub fn lies_elsewhere(image: &Image, table: &[Header], run: &Run<'_>) -> bool
+pub fn lies_elsewhere(image: &Image, table: &[Header], region: &Region<'_>) -> bool
     requires { table.now ≡ headers image.now }
-    ensures { result ≡ lies_elsewhere image.now run.now }
+    ensures { result ≡ lies_elsewhere image.now region.now }
 {
-    let low = file_place(image, run.start());
-    let high = low + run.end().saturating_sub(run.start());
+    let low = file_place(image, region.start());
+    let high = low + region.end().saturating_sub(region.start());
     low < FILE_HEADER_SIZE as u64 || in_note(table, low, high) || in_other_part(table, low, high)
 }

@@ -1,4 +1,4 @@
-//! The layout of the copies of an image's runs.
+//! The layout of the copies of an image's regions.
 
 ghost use Rattle.std.specs.Prelude.{◌≡◌, ◌∷◌, ◌++◌, [], IfOk, MatchResult, None, Ok, OnOk, map};
 ghost use Rattle.std.specs.Prelude.{if◌then◌else◌};
@@ -14,30 +14,30 @@ ghost use Rattle.copy_layout.specs.declared.layout.LayoutFault.TheVariants.{Memo
 
 use crate::base::new_base;
 use crate::elsewhere::lies_elsewhere;
-use crate::patch::RunPatch;
+use crate::patch::RegionPatch;
 use crate::placing::placed_in;
 use crate::trial::Trial;
 use elf_image::{Header, Image};
 use erim_defs::{Found, NoMemory};
 use image_code::ImageCode;
-use rewrite_sites::Run;
-use run_copies::RunCopy;
+use rewrite_sites::Region;
+use run_copies::RegionCopy;
 use std::alloc::{AllocError, AllocFailed, Global};
 
 /// How many bytes of copies no memory holds.
 const TOO_MANY: usize = 1 << 60;
 
-/// The copies of runs, and the bytes of the new segment.
+/// The copies of regions, and the bytes of the new segment.
 #[derive(Drop)]
 pub struct Layout<'a> {
-    pub copies: Vec<RunCopy<'a>>,
+    pub copies: Vec<RegionCopy<'a>>,
     pub segment: Vec<u8>,
 }
 
 /// Why there is no layout.
 #[derive(Drop)]
 pub enum LayoutFault {
-    /// A run has no copy; the address of its first element.
+    /// A region has no copy; the address of its first element.
     NoRoom { at: u64 },
     /// Memory ran out.
     Memory,
@@ -67,8 +67,8 @@ impl From<NoMemory> for LayoutFault {
     }
 }
 
-/// The address of the first of a run's elements.
-fn first_at(elements: &[Found]) -> u64
+/// The address of the first of a region's elements, its unsafe sequences.
+pub fn first_at(elements: &[Found]) -> u64
     ensures { result ≡ first_at elements.now }
 {
     match elements.first() {
@@ -77,38 +77,38 @@ fn first_at(elements: &[Found]) -> u64
     }
 }
 
-/// What is known to lie at runs that have no copies yet.
+/// What is known to lie at regions that have no copies yet.
 #[tactic(auto, using(crate::proofs::LayoutLemmas::open_steps))]
-fn open_patches(alloc: Global, runs: &[Run<'_>]) -> Result<Vec<RunPatch>, NoMemory>
-    ensures { IfOk result (λ patches. patches_of patches.items ≡ map open_patch runs.now) }
+fn open_patches(alloc: Global, regions: &[Region<'_>]) -> Result<Vec<RegionPatch>, NoMemory>
+    ensures { IfOk result (λ patches. patches_of patches.items ≡ map open_patch regions.now) }
 {
     let mut patches = Vec::new(alloc);
-    for run in runs {
-        patches.push(RunPatch::open(run))?;
+    for region in regions {
+        patches.push(RegionPatch::open(region))?;
     }
     Ok(patches)
 }
 
-/// The copy of a run among others, where there is one.
+/// The copy of a region among others, where there is one.
 fn copy_of<'a>(
     alloc: Global,
     image: &Image,
     table: &[Header],
     trial: &Trial<'_>,
-    run: &'a Run<'a>,
-) -> Result<Option<RunCopy<'a>>, NoMemory>
+    region: &'a Region<'a>,
+) -> Result<Option<RegionCopy<'a>>, NoMemory>
     requires { table.now ≡ headers image.now }
-    ensures { IfOk result (λ made. made ≡ (if lies_elsewhere image.now run.now then None
-        else placed_in trial.now run.now)) }
+    ensures { IfOk result (λ made. made ≡ (if lies_elsewhere image.now region.now then None
+        else placed_in trial.now region.now)) }
 {
-    if lies_elsewhere(image, table, run) {
+    if lies_elsewhere(image, table, region) {
         return Ok(None);
     }
-    placed_in(alloc, trial, run)
+    placed_in(alloc, trial, region)
 }
 
-/// Adds a copy behind those of a layout.
-fn add_copy<'a>(layout: &mut Layout<'a>, copy: RunCopy<'a>) -> Result<(), NoMemory>
+/// Adds a copy after those of a layout.
+fn add_copy<'a>(layout: &mut Layout<'a>, copy: RegionCopy<'a>) -> Result<(), NoMemory>
     ensures copies { OnOk result (layout.new.copies.items
         ≡ layout.old.copies.items ++ copy.entry ∷ []) }
     ensures segment { OnOk result (layout.new.segment.items
@@ -119,54 +119,54 @@ fn add_copy<'a>(layout: &mut Layout<'a>, copy: RunCopy<'a>) -> Result<(), NoMemo
     Ok(())
 }
 
-/// The copies of the runs of an image over its code, or the first run that has none.
+/// The copies of the regions of an image over its code, or the first region that has none.
 fn lay_over<'a>(
     alloc: Global,
     image: &Image,
     code: &ImageCode,
-    runs: &'a [Run<'a>],
+    regions: &'a [Region<'a>],
 ) -> Result<Layout<'a>, LayoutFault>
     requires { code_in code.now ≡ image_code image.now }
     ensures { MatchResult result
-        (λ layout. (laid_copies image.now runs.now ≡ Ok layout.copies.items)
+        (λ layout. (laid_copies image.now regions.now ≡ Ok layout.copies.items)
         × (layout.segment.items ≡ segment_bytes layout.copies.items))
-        (λ fault. RoomFaultIs (laid_copies image.now runs.now) fault) }
+        (λ fault. RoomFaultIs (laid_copies image.now regions.now) fault) }
 {
     let table = image.headers(alloc)?;
     let base = new_base(image);
-    let mut patches = open_patches(alloc, runs)?;
+    let mut patches = open_patches(alloc, regions)?;
     let mut layout = Layout {
         copies: Vec::new(alloc),
         segment: Vec::new(alloc),
     };
-    for run in runs {
+    for region in regions {
         if layout.segment.len() >= TOO_MANY {
             return Err(LayoutFault::Memory);
         }
         let index = layout.copies.len();
         let trial = Trial::among(code, base, layout.segment.as_slice(), &patches, index);
-        let Some(copy) = copy_of(alloc, image, &table, &trial, run)? else {
+        let Some(copy) = copy_of(alloc, image, &table, &trial, region)? else {
             return Err(LayoutFault::NoRoom {
-                at: first_at(run.elements()),
+                at: first_at(region.elements()),
             });
         };
-        patches[index] = RunPatch::placed(&copy);
+        patches[index] = RegionPatch::of_copy(&copy);
         add_copy(&mut layout, copy)?;
     }
     Ok(layout)
 }
 
-/// The copies of the runs of an image, or the first run that has none.
+/// The copies of the regions of an image, or the first region that has none.
 pub fn lay_copies<'a>(
     alloc: Global,
     image: &Image,
-    runs: &'a [Run<'a>],
+    regions: &'a [Region<'a>],
 ) -> Result<Layout<'a>, LayoutFault>
     ensures { MatchResult result
-        (λ layout. (laid_copies image.now runs.now ≡ Ok layout.copies.items)
+        (λ layout. (laid_copies image.now regions.now ≡ Ok layout.copies.items)
         × (layout.segment.items ≡ segment_bytes layout.copies.items))
-        (λ fault. RoomFaultIs (laid_copies image.now runs.now) fault) }
+        (λ fault. RoomFaultIs (laid_copies image.now regions.now) fault) }
 {
     let code = ImageCode::lay(alloc, image)?;
-    lay_over(alloc, image, &code, runs)
+    lay_over(alloc, image, &code, regions)
 }

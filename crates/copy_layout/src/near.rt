@@ -3,14 +3,14 @@
 ghost use Rattle.std.specs.Prelude.{◌≡◌, ◌++◌, OnOk};
 ghost use Rattle.copy_layout.specs.Patches.{first_cell, nearby, patches_of};
 
-use crate::patch::RunPatch;
+use crate::patch::RegionPatch;
 use erim_defs::NoMemory;
 
 /// Adds the patches that have a byte from an address up to another.
 #[tactic(auto, using(crate::proofs::PatchLemmas::near_steps))]
 pub fn push_near(
-    near: &mut Vec<RunPatch>,
-    patches: &[RunPatch],
+    near: &mut Vec<RegionPatch>,
+    patches: &[RegionPatch],
     low: u64,
     high: u64,
 ) -> Result<(), NoMemory>
@@ -27,7 +27,7 @@ pub fn push_near(
 
 /// What the first patch that covers an address says of it.
 #[tactic(auto, using(crate::proofs::PatchLemmas::cell_steps))]
-pub fn first_cell(patches: &[RunPatch], a: u64) -> Option<Option<u8>>
+pub fn first_cell(patches: &[RegionPatch], a: u64) -> Option<Option<u8>>
     ensures { result ≡ first_cell (patches_of patches.now) a }
 {
     for patch in patches {

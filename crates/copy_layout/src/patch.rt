@@ -1,48 +1,49 @@
-//! What lies over the old code at a run: its jump, and bytes 90.
+//! What lies over the old code at a region: its jump, and NOPs.
 
 ghost use Rattle.std.specs.Prelude.{◌+◌, ◌<◌, ◌^◌};
 
-use crate::run_bytes::{JUMP_SIZE, known_bytes, run_rest};
-use rewrite_sites::Run;
-use run_copies::RunCopy;
+use crate::region_bytes::{JUMP_SIZE, known_bytes, region_rest};
+use rewrite_sites::Region;
+use run_copies::{NOP, RegionCopy};
 
-/// What lies over the old code at a run. Contracts see it as the definitions' patch, by `patch_of`.
+/// What lies over the old code at a region. Contracts see it as the definitions' patch, by
+/// `patch_of`.
 #[derive(Clone, Copy)]
-pub struct RunPatch {
+pub struct RegionPatch {
     /// The address of its first byte.
     pub at: u64,
     /// The bytes of the jump, as far as they are known.
     pub jump: [Option<u8>; 5],
-    /// How many bytes 90 stand behind it.
+    /// How many NOPs stand after it.
     pub rest: u64,
     ghost user: { at + rest < 2 ^ 49 },
 }
 
-impl RunPatch {
+impl RegionPatch {
     ghost use Rattle.std.specs.Prelude.{◌≡◌};
-    ghost use Rattle.erim_defs.specs.Rewriting.Layout.{open_patch, run_patch};
+    ghost use Rattle.erim_defs.specs.Rewriting.Layout.{open_patch, region_patch};
     ghost use Rattle.copy_layout.specs.Patches.{cell, lies_near, patch_of};
 
-    /// What lies at the run of a copy.
-    #[tactic(auto, using(crate::proofs::PatchLemmas::run_patch_is))]
-    pub fn placed(copy: &RunCopy<'_>) -> RunPatch
-        ensures { patch_of result ≡ run_patch copy.now }
+    /// What lies at the region of a copy.
+    #[tactic(auto, using(crate::proofs::PatchLemmas::region_patch_is))]
+    pub fn of_copy(copy: &RegionCopy<'_>) -> RegionPatch
+        ensures { patch_of result ≡ region_patch copy.now }
     {
-        RunPatch {
-            at: copy.run().start(),
+        RegionPatch {
+            at: copy.region().start(),
             jump: known_bytes(copy.jump()),
-            rest: run_rest(copy.run()),
+            rest: region_rest(copy.region()),
         }
     }
 
-    /// What is known to lie at a run that has no copy yet.
-    pub fn open(run: &Run<'_>) -> RunPatch
-        ensures { patch_of result ≡ open_patch run.now }
+    /// What is known to lie at a region that has no copy yet.
+    pub fn open(region: &Region<'_>) -> RegionPatch
+        ensures { patch_of result ≡ open_patch region.now }
     {
-        RunPatch {
-            at: run.start(),
+        RegionPatch {
+            at: region.start(),
             jump: [Some(0xE9), None, None, None, None],
-            rest: run_rest(run),
+            rest: region_rest(region),
         }
     }
 
@@ -63,7 +64,7 @@ impl RunPatch {
             return Some(self.jump[place as usize]);
         }
         if place - JUMP_SIZE < self.rest {
-            Some(Some(0x90))
+            Some(Some(NOP))
         } else {
             None
         }

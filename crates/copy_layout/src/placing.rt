@@ -1,4 +1,4 @@
-//! Where the copy of a run lies: behind the fewest bytes 90 with which no sequence touches it.
+//! Where the copy of a region lies: after the fewest NOPs with which no sequence touches it.
 
 ghost use Rattle.std.specs.Prelude.{◌≡◌, ◌+◌, ◌<◌, ◌^◌, IfOk};
 ghost use Rattle.erim_defs.specs.Rewriting.Layout.{is_clean, is_untouched};
@@ -7,11 +7,11 @@ ghost use Rattle.copy_layout.specs.Trials.{placed_in, tried_code, trial_first};
 use crate::sight::Sight;
 use crate::trial::Trial;
 use erim_defs::NoMemory;
-use rewrite_sites::Run;
-use run_copies::RunCopy;
+use rewrite_sites::Region;
+use run_copies::RegionCopy;
 use std::alloc::Global;
 
-/// How many bytes 90 are tried.
+/// How many NOPs are tried.
 const PADDINGS: u8 = 16;
 
 /// With a candidate, has no sequence a byte from an address up to another?
@@ -19,7 +19,7 @@ const PADDINGS: u8 = 16;
 fn is_untouched(
     alloc: Global,
     trial: &Trial<'_>,
-    copy: &RunCopy<'_>,
+    copy: &RegionCopy<'_>,
     low: u64,
     high: u64,
 ) -> Result<bool, NoMemory>
@@ -31,7 +31,7 @@ fn is_untouched(
 }
 
 /// Does no sequence touch a candidate with the bytes before it, or the jump to it?
-fn is_clean(alloc: Global, trial: &Trial<'_>, copy: &RunCopy<'_>) -> Result<bool, NoMemory>
+fn is_clean(alloc: Global, trial: &Trial<'_>, copy: &RegionCopy<'_>) -> Result<bool, NoMemory>
     requires { copy.now.first ≡ trial_first trial.now }
     ensures { IfOk result (λ is. is ≡ is_clean (tried_code trial.now copy.now) copy.now) }
 {
@@ -39,22 +39,22 @@ fn is_clean(alloc: Global, trial: &Trial<'_>, copy: &RunCopy<'_>) -> Result<bool
     if !is_untouched(alloc, trial, copy, first, first + copy.piece().len() as u64)? {
         return Ok(false);
     }
-    let start = copy.run().start();
+    let start = copy.region().start();
     is_untouched(alloc, trial, copy, start, start + 5)
 }
 
-/// The copy of a run among others, where there is one.
+/// The copy of a region among others, where there is one.
 #[tactic(auto, using(crate::proofs::PlacingLemmas::placed_steps))]
 pub fn placed_in<'a>(
     alloc: Global,
     trial: &Trial<'_>,
-    run: &'a Run<'a>,
-) -> Result<Option<RunCopy<'a>>, NoMemory>
-    ensures { IfOk result (λ made. made ≡ placed_in trial.now run.now) }
+    region: &'a Region<'a>,
+) -> Result<Option<RegionCopy<'a>>, NoMemory>
+    ensures { IfOk result (λ made. made ≡ placed_in trial.now region.now) }
 {
     let first = trial.first();
     for pad in 0..PADDINGS {
-        let Some(copy) = RunCopy::spell(alloc, run, first, pad)? else {
+        let Some(copy) = RegionCopy::spell(alloc, region, first, pad)? else {
             return Ok(None);
         };
         if is_clean(alloc, trial, &copy)? {

@@ -4,10 +4,10 @@ ghost use Rattle.std.specs.Prelude.{◌≡◌};
 
 use crate::front::Front;
 use crate::near::first_cell;
-use crate::patch::RunPatch;
+use crate::patch::RegionPatch;
 use crate::trial::Trial;
 use erim_defs::NoMemory;
-use run_copies::RunCopy;
+use run_copies::RegionCopy;
 use sequence_scan::sequence_at;
 use std::alloc::Global;
 use std::marker::Model;
@@ -16,8 +16,8 @@ use std::marker::Model;
 #[derive(Drop)]
 pub struct Sight<'a> {
     trial: &'a Trial<'a>,
-    copy: &'a RunCopy<'a>,
-    near: Vec<RunPatch>,
+    copy: &'a RegionCopy<'a>,
+    near: Vec<RegionPatch>,
 }
 
 impl<'a> Model for Sight<'a> {
@@ -41,7 +41,7 @@ impl<'a> Sight<'a> {
     pub fn open(
         alloc: Global,
         trial: &'a Trial<'a>,
-        copy: &'a RunCopy<'a>,
+        copy: &'a RegionCopy<'a>,
         low: u64,
         high: u64,
     ) -> Result<Sight<'a>, NoMemory>

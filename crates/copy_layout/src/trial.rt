@@ -3,24 +3,24 @@
 ghost use Rattle.std.specs.Prelude.{◌≡◌};
 
 use crate::near::push_near;
-use crate::patch::RunPatch;
+use crate::patch::RegionPatch;
 use crate::segment_bytes::byte_of;
 use erim_defs::NoMemory;
 use erim_defs::page::PAGE_SIZE;
 use image_code::ImageCode;
-use run_copies::RunCopy;
+use run_copies::RegionCopy;
 use std::alloc::Global;
 use std::marker::Model;
 
 /// What a candidate is tried among: the old code, the bytes of the copies before it, and what lies
-/// over the old code at their runs and at those that have no copy yet.
+/// over the old code at their regions and at those that have no copy yet.
 #[derive(Drop)]
 pub struct Trial<'a> {
     code: &'a ImageCode,
     base: u64,
     segment: &'a [u8],
-    before: &'a [RunPatch],
-    after: &'a [RunPatch],
+    before: &'a [RegionPatch],
+    after: &'a [RegionPatch],
 }
 
 impl<'a> Model for Trial<'a> {
@@ -46,14 +46,14 @@ impl<'a> Trial<'a> {
     ghost use Rattle.erim_defs.specs.Inspection.Code.{laid_at};
     ghost use Rattle.image_code.specs.Stretches.{code_in};
     ghost use Rattle.copy_layout.specs.Patches.{patches_of};
-    ghost use Rattle.copy_layout.specs.Trials.{near_patches, tried_bytes, trial_first, zeros_after};
+    ghost use Rattle.copy_layout.specs.Trials.{near_patches, tried_bytes, trial_first, trial_zeros};
 
-    /// The trial of the run of an index, by the bytes of the copies before it and all patches.
+    /// The trial of the region of an index, by the bytes of the copies before it and all patches.
     pub fn among(
         code: &'a ImageCode,
         base: u64,
         segment: &'a [u8],
-        patches: &'a [RunPatch],
+        patches: &'a [RegionPatch],
         index: usize,
     ) -> Trial<'a>
         requires base { base < 2 ^ 49 }
@@ -89,11 +89,11 @@ impl<'a> Trial<'a> {
         self.code.byte_at(a)
     }
 
-    /// How many zeros stand behind so many bytes of the segment.
+    /// How many zeros stand after a given number of bytes of the segment.
     #[tactic(auto, using(crate::proofs::TrialLemmas::zeros_steps))]
-    fn zeros_after(&self, count: u64) -> u64
+    fn trial_zeros(&self, count: u64) -> u64
         requires { count < 2 ^ 63 + 2 ^ 62 }
-        ensures { result ≡ zeros_after count self.now.after }
+        ensures { result ≡ trial_zeros count self.now.after }
     {
         let end = (count + (PAGE_SIZE - 1)) / PAGE_SIZE * PAGE_SIZE;
         if self.after.is_empty() {
@@ -104,12 +104,12 @@ impl<'a> Trial<'a> {
     }
 
     /// The byte of the segment with a candidate at an address.
-    pub fn new_byte(&self, copy: &RunCopy<'_>, a: u64) -> Option<u8>
+    pub fn new_byte(&self, copy: &RegionCopy<'_>, a: u64) -> Option<u8>
         ensures { result ≡ laid_at self.now.base (tried_bytes self.now copy.now) a }
     {
         let place = a.checked_sub(self.base)?;
         let piece = copy.piece();
-        let zeros = self.zeros_after(self.segment.len() as u64 + piece.len() as u64);
+        let zeros = self.trial_zeros(self.segment.len() as u64 + piece.len() as u64);
         byte_of(self.segment, piece, zeros, place as usize)
     }
 
@@ -118,16 +118,16 @@ impl<'a> Trial<'a> {
     pub fn near_patches(
         &self,
         alloc: Global,
-        copy: &RunCopy<'_>,
+        copy: &RegionCopy<'_>,
         low: u64,
         high: u64,
-    ) -> Result<Vec<RunPatch>, NoMemory>
+    ) -> Result<Vec<RegionPatch>, NoMemory>
         ensures { IfOk result (λ near. patches_of near.items
             ≡ near_patches self.now copy.now low high) }
     {
         let mut near = Vec::new(alloc);
         push_near(&mut near, self.before, low, high)?;
-        push_near(&mut near, &[RunPatch::placed(copy)], low, high)?;
+        push_near(&mut near, &[RegionPatch::of_copy(copy)], low, high)?;
         push_near(&mut near, self.after, low, high)?;
         Ok(near)
     }

@@ -1,50 +1,32 @@
 -- Calls by threads that open some domains, on small states, computed. Linux on x86-64: write 1,
 -- mmap 9, mprotect 10, munmap 11, pkey_mprotect 329, pkey_alloc 330, pkey_free 331; EPERM 1,
 -- ENOMEM 12, EFAULT 14, EINVAL 22, ENOSPC 28. Own: talloc 1000, tfree 1001, and which are refused.
-use Rattle.std.proofs.Common.{◌≡◌, ℕ, ◌==◌, ◌||◌, zero, suc, nat_lt, Bool, List, [], ◌∷◌, ◌++◌, map}
+use Rattle.std.proofs.Common.{◌≡◌, ℕ, ◌==◌, ◌||◌, nat_lt, Bool, List, [], ◌∷◌, ◌++◌, map}
 use Rattle.std.proofs.Common.{Option, None, refl}
-use Rattle.std.specs.Prelude.{if◌then◌else◌}
 use Rattle.erim_defs.specs.declared.machine.Rights.{Rights}
 use Rattle.erim_defs.specs.declared.machine.Thread.{Thread}
-use Rattle.erim_defs.specs.declared.trust.Span.{Span}
 use Rattle.erim_defs.specs.Machine.Access.{opens, opens_write}
 use Rattle.erim_defs.specs.Machine.CallResult.{Refusal, Answer, ThreadEnd, Quit, CallResult}
-use Rattle.erim_defs.specs.Machine.Count.{mapped, count_below}
-use Rattle.erim_defs.specs.Machine.Domains.{opened}
+use Rattle.erim_defs.specs.Machine.Count.{mapped_pages, count_below}
+use Rattle.erim_defs.specs.Machine.Domains.{opened_domains}
 use Rattle.erim_defs.specs.Machine.Least.{any_below}
 use Rattle.erim_defs.specs.Machine.MapCalls.{is_pinned, mmap_at, range_of}
 use Rattle.erim_defs.specs.Machine.State.{State}
-use Rattle.erim_defs.proofs.SmallMachine.{call_by, page, published_page}
+use Rattle.definition_rows.proofs.CallAnswers.{Told, Refused, Pages, Keys, Wrote, Blocks, taken}
+use Rattle.definition_rows.proofs.CallAnswers.{keys_of}
+use Rattle.definition_rows.proofs.SmallMachine.{call_by, page, published_page}
 use Rattle.definition_rows.proofs.DomainImages.{domain_state, domain_rights, plain_records}
 use Rattle.definition_rows.proofs.DomainImages.{integrity, standing, bare_image, mark, span}
 
--- ---- what is told of a call
+-- ---- what is said of a call
 
--- a refusal; an answer with the rights of pages 0x403 to 0x405, 0x408 and 0x409; or with the keys
--- that are taken and the caller's PKRU; or with what was written
-data Told : Type 0 where
-  Refused : ℕ → Told
-  Pages : ℕ → List (Option Rights) → Told
-  Keys : ℕ → List ℕ → ℕ → Told
-  Wrote : ℕ → List ℕ → Told
-  Blocks : ℕ → List Span → Told
-
+-- the rights of pages 0x403 to 0x405, 0x408 and 0x409
 abbrev pages_of : CallResult → Told
 pages_of (Refusal e) = Refused e
 pages_of (Answer v c) =
-    Pages v (map c.rights (0x403 ∷ 0x404 ∷ 0x405 ∷ 0x408 ∷ 0x409 ∷ []))
+    Pages v (map c.rights (0x403 ∷ 0x404 ∷ 0x405 ∷ 0x408 ∷ 0x409 ∷ [])) []
 pages_of (ThreadEnd status) = Refused 0
 pages_of (Quit status) = Refused 0
-
-taken : (ℕ → Bool) → ℕ → List ℕ
-taken keys zero = []
-taken keys (suc n) = if keys n then n ∷ taken keys n else taken keys n
-
-abbrev keys_of : CallResult → Told
-keys_of (Refusal e) = Refused e
-keys_of (Answer v c) = Keys v (taken c.keys 16) c.pkru
-keys_of (ThreadEnd status) = Refused 0
-keys_of (Quit status) = Refused 0
 
 abbrev output_of : CallResult → Told
 output_of (Refusal e) = Refused e
@@ -79,7 +61,7 @@ first_integrity =
     domain_state (plain_records ++ integrity 1 ∷ []) (standing 0x55555558 0x401000 0) []
 
 pages_told : State → Thread → Told
-unfolding call_by bare_image opened opens_write
+unfolding call_by bare_image opened_domains opens_write
 pages_told s t = pages_of (call_by s t)
 
 -- closed, opens 1 alone, 2 alone, both
@@ -92,16 +74,16 @@ readers = 0x55555564 ∷ 0x55555560 ∷ 0x55555570 ∷ 0x55555544 ∷ []
 
 -- the pages at the start, and with a page in the place of 0x404, 0x405, 0x408, 0x409
 abbrev with_second : Option Rights → Told
-with_second r = Pages 0 (published_page ∷ r ∷ page 3 1 ∷ page 3 0 ∷ page 3 3 ∷ [])
+with_second r = Pages 0 (published_page ∷ r ∷ page 3 1 ∷ page 3 0 ∷ page 3 3 ∷ []) []
 
 abbrev with_first : Option Rights → Told
-with_first r = Pages 0 (published_page ∷ page 3 2 ∷ r ∷ page 3 0 ∷ page 3 3 ∷ [])
+with_first r = Pages 0 (published_page ∷ page 3 2 ∷ r ∷ page 3 0 ∷ page 3 3 ∷ []) []
 
 abbrev with_plain : Option Rights → Told
-with_plain r = Pages 0 (published_page ∷ page 3 2 ∷ page 3 1 ∷ r ∷ page 3 3 ∷ [])
+with_plain r = Pages 0 (published_page ∷ page 3 2 ∷ page 3 1 ∷ r ∷ page 3 3 ∷ []) []
 
 abbrev with_third : Option Rights → Told
-with_third r = Pages 0 (published_page ∷ page 3 2 ∷ page 3 1 ∷ page 3 0 ∷ r ∷ [])
+with_third r = Pages 0 (published_page ∷ page 3 2 ∷ page 3 1 ∷ page 3 0 ∷ r ∷ []) []
 
 -- ---- munmap
 
@@ -116,7 +98,7 @@ unmapped :
     ≡ Refused 1 ∷ Refused 1 ∷ with_second None ∷ with_second None
     ∷ Refused 1 ∷ with_first None ∷ Refused 1 ∷ with_first None
     ∷ Refused 1 ∷ Refused 1 ∷ Refused 1
-    ∷ Pages 0 (published_page ∷ None ∷ None ∷ page 3 0 ∷ page 3 3 ∷ []) ∷ []
+    ∷ Pages 0 (published_page ∷ None ∷ None ∷ page 3 0 ∷ page 3 3 ∷ []) [] ∷ []
 unfolding munmap
 unmapped = refl
 
@@ -208,10 +190,10 @@ keyed_in_order :
 unfolding keyed
 keyed_in_order = refl
 
--- ---- mmap with MAP_FIXED (0x32), where so many pages are mapped
+-- ---- mmap with MAP_FIXED (0x32), where a given number of pages are mapped
 
 mmap : State → ℕ → ℕ → Told
-unfolding call_by bare_image opened opens opens_write any_below is_pinned count_below plain
+unfolding call_by bare_image opened_domains opens opens_write any_below is_pinned count_below plain
     second_integrity caller
 mmap s addr pkru =
     pages_of (mmap_at s (caller pkru 9 addr 4096 1 0x32) addr (range_of addr 4096) 1)
@@ -221,16 +203,16 @@ abbrev anew : Option Rights
 anew = page 1 0
 
 mapped_anew :
-    (m : mapped domain_rights ≡ 8)
+    (m : mapped_pages domain_rights ≡ 8)
     → map (mmap plain 0x404000) callers ++ map (mmap plain 0x405000) callers
     ++ map (mmap second_integrity 0x404000) readers
     ≡ Refused 1 ∷ Refused 1
-    ∷ Pages 0x404000 (published_page ∷ anew ∷ page 3 1 ∷ page 3 0 ∷ page 3 3 ∷ [])
-    ∷ Pages 0x404000 (published_page ∷ anew ∷ page 3 1 ∷ page 3 0 ∷ page 3 3 ∷ [])
-    ∷ Refused 1 ∷ Pages 0x405000 (published_page ∷ page 3 2 ∷ anew ∷ page 3 0 ∷ page 3 3 ∷ [])
-    ∷ Refused 1 ∷ Pages 0x405000 (published_page ∷ page 3 2 ∷ anew ∷ page 3 0 ∷ page 3 3 ∷ [])
+    ∷ Pages 0x404000 (published_page ∷ anew ∷ page 3 1 ∷ page 3 0 ∷ page 3 3 ∷ []) []
+    ∷ Pages 0x404000 (published_page ∷ anew ∷ page 3 1 ∷ page 3 0 ∷ page 3 3 ∷ []) []
+    ∷ Refused 1 ∷ Pages 0x405000 (published_page ∷ page 3 2 ∷ anew ∷ page 3 0 ∷ page 3 3 ∷ []) []
+    ∷ Refused 1 ∷ Pages 0x405000 (published_page ∷ page 3 2 ∷ anew ∷ page 3 0 ∷ page 3 3 ∷ []) []
     ∷ Refused 1 ∷ Refused 1 ∷ Refused 1
-    ∷ Pages 0x404000 (published_page ∷ anew ∷ page 3 1 ∷ page 3 0 ∷ page 3 3 ∷ []) ∷ []
+    ∷ Pages 0x404000 (published_page ∷ anew ∷ page 3 1 ∷ page 3 0 ∷ page 3 3 ∷ []) [] ∷ []
 unfolding mmap
 mapped_anew m = rw m refl
 
@@ -246,7 +228,7 @@ mapped_refused = refl
 -- ---- keys
 
 keys_told : State → (ℕ → Bool) → Thread → Told
-unfolding call_by bare_image opened opens_write taken
+unfolding call_by bare_image opened_domains opens_write taken
 keys_told s keys t = keys_of (call_by (record s { keys = keys }) t)
 
 -- keys 0 to 3 are taken: key 0 and the domains stay taken, also for who opens them, and what isn't
@@ -302,11 +284,12 @@ read_by_write = refl
 -- ---- the trusted heap is of domain 1
 
 heap_told : State → ℕ → ℕ → ℕ → Told
-unfolding call_by bare_image opened opens_write plain second_integrity first_integrity caller
+unfolding call_by bare_image opened_domains opens_write plain second_integrity first_integrity
+    caller
 heap_told s call arg pkru =
     blocks_of (call_by (record s { blocks = span 0x407000 16 ∷ [] }) (caller pkru call arg 0 0 0))
 
--- who may ask is told EINVAL, for a length of 0 and where no block begins; others EPERM
+-- who may ask is said EINVAL, for a length of 0 and where no block begins; others EPERM
 heap_callers :
     map (heap_told plain 1000 0) callers ++ map (heap_told plain 1001 0x407008) callers
     ≡ Refused 1 ∷ Refused 22 ∷ Refused 1 ∷ Refused 22

@@ -54,7 +54,7 @@ functions_of_version version =
     6 ∷ 0 ∷ 0 ∷ 0 ∷ 8 ∷ 0 ∷ 0 ∷ 0 ∷ 2 ∷ 0 ∷ 0 ∷ 0 ∷ 0x45 ∷ 0x52 ∷ 0x49 ∷ 0x4D ∷ 0x46 ∷ 0 ∷ 0 ∷ 0
     ∷ version ∷ 0 ∷ 0 ∷ 0 ∷ 0 ∷ 0 ∷ 0 ∷ 0 ∷ []
 
--- of the functions note: 1 alone, alone and with a trust note of either version before or behind it
+-- of the functions note: 1 alone, alone and with a trust note of either version before or after it
 functions_version :
     map fault_of
     (functions_of_version 1 ∷ functions_of_version 2
@@ -180,8 +180,8 @@ marks_of_keys :
 unfolding fault_in
 marks_of_keys = refl
 
--- a mark overlaps nothing, before ranges and behind them; ranges of two keys overlap as those of
--- one do
+-- a mark overlaps nothing, before ranges and after them; ranges of two keys overlap as those of one
+-- do
 overlaps_of_two :
     map (fault_in 2)
     ((integrity 1 ∷ text 1 0x402000 ∷ mark 2 1 0x404000 4096 ∷ [])
@@ -287,7 +287,7 @@ named_domains :
 unfolding domains_of
 named_domains = refl
 
--- a note of version 2 without records is strict; no trust note isn't, also behind functions
+-- a note of version 2 without records is strict; no trust note isn't, also after functions
 empty_trusts :
     map trust_in (note_of 2 [] ∷ [] ∷ functions_of_version 2 ∷ note_of 1 [] ∷ [])
     ≡ record (plain_trust [] []) { strict = true } ∷ plain_trust [] [] ∷ plain_trust [] []
@@ -328,7 +328,7 @@ keys_of_data : keys_in (note_of 2 two_records) ≡ 2 ∷ 1 ∷ []
 unfolding keys_in
 keys_of_data = refl
 
--- code, text of 1 and of 2, data of 2, data of 1 on two pages, the heap, a page behind it, and a
+-- code, text of 1 and of 2, data of 2, data of 1 on two pages, the heap, a page after it, and a
 -- page that a mark's range would have
 page_keys :
     map (page_key (bare_image (note_of 2 two_records)))

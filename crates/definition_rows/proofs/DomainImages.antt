@@ -11,7 +11,7 @@ use Rattle.erim_defs.specs.declared.trust.Span.{Span}
 use Rattle.erim_defs.specs.Inspection.Image.{Record}
 use Rattle.erim_defs.specs.Inspection.Trust.{TrustValue}
 use Rattle.erim_defs.specs.Output.LayImage.{Piece, program_header, file_header, words, xwords}
-use Rattle.erim_defs.proofs.SmallMachine.{load, page, published_page, thread_at, byte_or}
+use Rattle.definition_rows.proofs.SmallMachine.{load, page, published_page, thread_at, byte_or}
 
 -- ---- notes: the name, the version, the count, the records
 
@@ -46,7 +46,7 @@ unfoldable pub bare_image : List ℕ → List ℕ
 bare_image notes = file_header 1 0x401000 ++ program_header (noted_at 120 notes) ++ notes
 
 -- ---- an image with segments: code at 0x401000; two pages that are executable from 0x402000 on;
--- five that can be written from 0x404000 on; behind them its notes
+-- five that can be written from 0x404000 on; after them its notes
 
 abbrev pub pieces_with : List ℕ → List Piece
 pieces_with notes =

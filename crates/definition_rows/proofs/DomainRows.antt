@@ -1,6 +1,6 @@
 -- Domains, computed: the values of PKRU, what a PKRU opens, where a thread is at home, the check
--- behind a WRPKRU. SDM volume 3A, "Protection Keys": AD of key k is bit 2k, WD bit 2k + 1. Own:
--- the rest.
+-- after a WRPKRU. SDM volume 3A, "Protection Keys": AD of key k is bit 2k, WD bit 2k + 1. Own: the
+-- rest.
 use Rattle.std.proofs.Common.{◌≡◌, ℕ, List, [], ◌∷◌, ◌++◌, map, Option, Some, None, Bool}
 use Rattle.std.proofs.Common.{true, false, refl}
 use Rattle.std.specs.Prelude.{take, pos}
@@ -15,7 +15,8 @@ use Rattle.erim_defs.specs.declared.insn.Width.TheVariants.{W4}
 use Rattle.erim_defs.specs.declared.machine.Thread.{Thread}
 use Rattle.erim_defs.specs.Encoding.Decoding.{decode}
 use Rattle.erim_defs.specs.Encoding.Operand.{has_sib, disp_size}
-use Rattle.erim_defs.specs.Inspection.Check.{Compare, Branch, Number, Leave, closed_value, compared}
+use Rattle.erim_defs.specs.Inspection.Check.{Compare, Branch, Number, Leave, closed_value}
+use Rattle.erim_defs.specs.Inspection.Check.{compared_value}
 use Rattle.erim_defs.specs.Inspection.Check.{check_of, check_bytes, check_insn, position_start}
 use Rattle.erim_defs.specs.Inspection.Code.{laid_at}
 use Rattle.erim_defs.specs.Inspection.Occurrence.{occurrence_at, are_present}
@@ -23,9 +24,10 @@ use Rattle.erim_defs.specs.Inspection.Safe.{fits, unsafe_at}
 use Rattle.erim_defs.specs.Inspection.Trust.{TrustValue, pkru_of, text_key, entry_key}
 use Rattle.erim_defs.specs.Inspection.Trust.{plain_trust}
 use Rattle.erim_defs.specs.Machine.Access.{opens, opens_write}
-use Rattle.erim_defs.specs.Machine.Domains.{opens_domain, opened, is_set_but, is_at_home, is_denied}
+use Rattle.erim_defs.specs.Machine.Domains.{opens_domain, opened_domains, is_set_but, is_at_home}
+use Rattle.erim_defs.specs.Machine.Domains.{is_denied}
 use Rattle.erim_defs.specs.Machine.State.{is_open, is_outside, is_inside}
-use Rattle.erim_defs.proofs.SmallMachine.{thread_at, step_by}
+use Rattle.definition_rows.proofs.SmallMachine.{thread_at, step_by}
 use Rattle.definition_rows.proofs.DomainImages.{trust_of_two, no_flag, first_flag, second_flag}
 use Rattle.definition_rows.proofs.DomainImages.{third_flag, fourth_flag, four_flags, trust_of_four}
 use Rattle.definition_rows.proofs.DomainImages.{span}
@@ -70,17 +72,17 @@ opened_among_four = refl
 
 -- a value opens the domain that it is of, and no other
 opened_by_values :
-    map (λ k. opened (trust_of_four four_flags) (pkru_of (trust_of_four four_flags) k))
+    map (λ k. opened_domains (trust_of_four four_flags) (pkru_of (trust_of_four four_flags) k))
     (0 ∷ 1 ∷ 2 ∷ 3 ∷ 4 ∷ [])
     ≡ no_flag ∷ first_flag ∷ second_flag ∷ third_flag ∷ fourth_flag ∷ []
-unfolding pkru_of opened opens opens_write
+unfolding pkru_of opened_domains opens opens_write
 opened_by_values = refl
 
 opened_by_plain_values :
-    map (λ k. opened (trust_of_four no_flag) (pkru_of (trust_of_four no_flag) k))
+    map (λ k. opened_domains (trust_of_four no_flag) (pkru_of (trust_of_four no_flag) k))
     (0 ∷ 1 ∷ 2 ∷ 3 ∷ 4 ∷ [])
     ≡ no_flag ∷ first_flag ∷ second_flag ∷ third_flag ∷ fourth_flag ∷ []
-unfolding pkru_of opened opens opens_write
+unfolding pkru_of opened_domains opens opens_write
 opened_by_plain_values = refl
 
 -- ---- what is opened: the bits of key 1 are 2 and 3, those of key 2 are 4 and 5
@@ -116,11 +118,11 @@ no_domain = refl
 
 -- a flag at each key from 0 on
 opened_flags :
-    map (opened (trust_of_two second_flag true))
+    map (opened_domains (trust_of_two second_flag true))
     (0 ∷ 0x55555554 ∷ 0x55555550 ∷ 0x55555544 ∷ 0x55555540 ∷ 0x55555560 ∷ 0xFFFFFFFF ∷ [])
     ≡ (false ∷ true ∷ true ∷ false ∷ false ∷ []) ∷ no_flag ∷ first_flag ∷ second_flag
     ∷ (false ∷ true ∷ true ∷ false ∷ false ∷ []) ∷ first_flag ∷ no_flag ∷ []
-unfolding opened opens opens_write
+unfolding opened_domains opens opens_write
 opened_flags = refl
 
 -- but for the one at a place; past the end none is left out
@@ -154,7 +156,7 @@ denied_integrity = refl
 
 -- ---- places
 
--- before, first and last byte of each text, behind
+-- before, first and last byte of each text, after
 text_keys :
     map (text_key (trust_of_two no_flag true))
     (0 ∷ 0x401FFF ∷ 0x402000 ∷ 0x402FFF ∷ 0x403000 ∷ 0x403FFF ∷ 0x404000 ∷ [])
@@ -178,7 +180,7 @@ abbrev thread : ℕ → ℕ → Thread
 thread pkru rip = record (thread_at rip 0 0 0) { pkru = pkru }
 
 stands : TrustValue → ℕ → ℕ → List Bool
-unfolding opened opens opens_write is_set_but text_key
+unfolding opened_domains opens opens_write is_set_but text_key
 stands trust pkru rip =
     is_open trust pkru ∷ is_at_home trust pkru rip ∷ is_inside trust (thread pkru rip)
     ∷ is_outside trust (thread pkru rip) ∷ []
@@ -246,12 +248,13 @@ plain_stands :
 unfolding stands
 plain_stands = refl
 
--- ---- what the check behind a WRPKRU compares with
+-- ---- what the check after a WRPKRU compares with
 
--- the places are behind it: an entry of 1, of 2, none. In a strict trust the value that opens the
+-- the places are after it: an entry of 1, of 2, none. In a strict trust the value that opens the
 -- entry's domain, else that of a closed thread; in a plain one always that
 compared_values :
-    map (λ (t : TrustValue). map (compared t) (0x40200C ∷ 0x40300C ∷ 0x402000 ∷ 0x401000 ∷ []))
+    map (λ (t : TrustValue). map (compared_value t)
+    (0x40200C ∷ 0x40300C ∷ 0x402000 ∷ 0x401000 ∷ []))
     (trust_of_two no_flag true ∷ trust_of_two first_flag true ∷ trust_of_two second_flag true
     ∷ trust_of_two no_flag false ∷ [])
     ≡ (0x55555550 ∷ 0x55555544 ∷ 0x55555554 ∷ 0x55555554 ∷ [])
@@ -276,7 +279,7 @@ checks :
 unfolding check_of pkru_of entry_key
 checks = refl
 
--- behind XRSTOR: bt eax, 9; jae; mov eax, 231; syscall, also before an entry
+-- after XRSTOR: bt eax, 9; jae; mov eax, 231; syscall, also before an entry
 xrstor_checks :
     map (check_of (trust_of_two no_flag true) Xrstor) (0x40200C ∷ 0x401003 ∷ [])
     ≡ (0x0F ∷ 0xBA ∷ 0xE0 ∷ 0x09 ∷ 0x73 ∷ 0x07 ∷ 0xB8 ∷ 0xE7 ∷ 0 ∷ 0 ∷ 0 ∷ 0x0F ∷ 0x05 ∷ [])
@@ -308,7 +311,7 @@ compare_insn :
 unfolding pkru_of entry_key
 compare_insn = refl
 
--- ---- safe sequences, the code lying at 0x402009: the entry of 1 is behind its WRPKRU
+-- ---- safe sequences, the code lying at 0x402009: the entry of 1 is after its WRPKRU
 
 wrpkru : List ℕ
 wrpkru = 0x0F ∷ 0x01 ∷ 0xEF ∷ []
@@ -354,8 +357,8 @@ strict_integrity :
 unfolding unsafe_in wrpkru found
 strict_integrity = refl
 
--- each byte of a check counts, and absent ones contradict nothing: the first so many bytes, and
--- those with another one behind them
+-- each byte of a check counts, and absent ones contradict nothing: the first bytes up to each
+-- number, and those with another one after them
 strict_prefixes :
     map (λ n. unsafe_in (trust_of_two no_flag true) 0x402009 (wrpkru ++ take n (check_with 0x50)))
     (0 ∷ 1 ∷ 2 ∷ 5 ∷ 13 ∷ 14 ∷ [])

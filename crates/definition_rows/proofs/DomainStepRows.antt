@@ -14,11 +14,11 @@ use Rattle.erim_defs.specs.Inspection.Code.{laid_at}
 use Rattle.erim_defs.specs.Inspection.Image.{Record}
 use Rattle.erim_defs.specs.Inspection.Trust.{TrustValue, text_key}
 use Rattle.erim_defs.specs.Machine.Access.{opens, opens_write}
-use Rattle.erim_defs.specs.Machine.Domains.{is_set_but, opened}
+use Rattle.erim_defs.specs.Machine.Domains.{is_set_but, opened_domains}
 use Rattle.erim_defs.specs.Machine.Replay.{steps_of}
 use Rattle.erim_defs.specs.Machine.State.{State, with_origin, is_escape}
-use Rattle.erim_defs.proofs.SmallMachine.{step_by, loaded_by, page, published_page, byte_or}
-use Rattle.erim_defs.proofs.SmallMachine.{thread_at, caller_at}
+use Rattle.definition_rows.proofs.SmallMachine.{step_by, loaded_by, page, published_page, byte_or}
+use Rattle.definition_rows.proofs.SmallMachine.{thread_at, caller_at}
 use Rattle.definition_rows.proofs.DomainImages.{domain_state, plain_records, integrity, standing}
 use Rattle.definition_rows.proofs.DomainImages.{bare_image, image_with, note_of, mark, text}
 use Rattle.definition_rows.proofs.DomainImages.{two_records, trust_of_two, no_flag, second_flag}
@@ -30,7 +30,7 @@ wrpkru a = record { at = a; len = 3; kind = Wrpkru }
 
 -- the origin of a thread afterwards, where it had one, and the instruction was a WRPKRU or another
 origins : TrustValue → ℕ → ℕ → List (Option Found)
-unfolding opened opens opens_write is_set_but text_key wrpkru
+unfolding opened_domains opens opens_write is_set_but text_key wrpkru
 origins trust pkru rip =
     let t : Thread = record (standing pkru rip 0) { origin = Some (wrpkru 0x401000) } in
     (let u = with_origin trust (Some (wrpkru 0x401100)) t in u.origin)
@@ -68,7 +68,7 @@ origins_of_readers = refl
 
 -- from text of 1, from text of 2 and from none, to text of 1, to text of 2 and to none
 escapes : TrustValue → Bool → ℕ → ℕ → List (List Bool)
-unfolding opened opens opens_write is_set_but text_key
+unfolding opened_domains opens opens_write is_set_but text_key
 escapes trust free before after =
     map (λ from. map (λ to. is_escape trust free (standing before from 0) (standing after to 0))
     three_places) three_places
@@ -134,7 +134,7 @@ wrpkru_bytes = 0x0F ∷ 0x01 ∷ 0xEF ∷ []
 writing : ℕ → ℕ → ℕ → State
 writing value before at = domain_state plain_records (standing before at value) wrpkru_bytes
 
--- the thread behind it
+-- the thread after it
 written : ℕ → ℕ → Option Found → Thread
 written value rip origin = with_origin_at origin (standing value rip value)
 
@@ -375,7 +375,7 @@ run_into_gate low steps =
     } in
     told (steps_of 0 steps (running plain_records (into_gate low) first_gate t)))
 
--- with the value of 2 it is outside behind the WRPKRU, and ends by the check in seven steps
+-- with the value of 2 it is outside after the WRPKRU, and ends by the check in seven steps
 gate_with_another_value :
     run_into_gate 0x44 3 ∷ run_into_gate 0x44 6 ∷ run_into_gate 0x44 7 ∷ []
     ≡ Ran None (0x55555544 ∷ []) (Some (wrpkru 0x402009) ∷ []) None 9
@@ -384,7 +384,7 @@ gate_with_another_value :
 unfolding run_into_gate wrpkru
 gate_with_another_value = refl
 
--- with its own value it is at home, and goes on behind the check
+-- with its own value it is at home, and goes on after the check
 gate_with_its_value :
     run_into_gate 0x50 3 ∷ run_into_gate 0x50 5 ∷ []
     ≡ Ran None (0x55555550 ∷ []) (None ∷ []) None 9 ∷ Ran None (0x55555550 ∷ []) (None ∷ []) None 11

@@ -14,12 +14,12 @@ use Rattle.erim_defs.specs.declared.machine.Rights.{Rights}
 use Rattle.erim_defs.specs.declared.machine.Thread.{Thread}
 use Rattle.erim_defs.specs.Machine.Access.{opens_write}
 use Rattle.erim_defs.specs.Machine.MapCalls.{is_pinned}
-use Rattle.erim_defs.specs.Machine.Pages.{RightsMap, taken_back, published_rights}
+use Rattle.erim_defs.specs.Machine.Pages.{RightsMap, taken_back_rights, published_rights}
 use Rattle.erim_defs.specs.Machine.Replay.{steps_of}
 use Rattle.erim_defs.specs.Machine.State.{State, code}
 use Rattle.erim_defs.specs.Machine.Step.{is_write_fault}
 use Rattle.erim_defs.specs.Machine.Step.{after_stop}
-use Rattle.erim_defs.proofs.SmallMachine.{step_by, page, published_page}
+use Rattle.definition_rows.proofs.SmallMachine.{step_by, page, published_page}
 use Rattle.definition_rows.proofs.DomainImages.{domain_state, plain_records, standing}
 use Rattle.definition_rows.proofs.DomainImages.{bare_image}
 
@@ -35,8 +35,8 @@ shown asked key = rights false true asked key
 
 -- it can be written and isn't fetched, and keeps the rest; a second time nothing changes
 rights_once_taken_back :
-    taken_back (shown 7 4) ∷ taken_back (taken_back (shown 7 4))
-    ∷ published_rights (taken_back (shown 7 4)) ∷ []
+    taken_back_rights (shown 7 4) ∷ taken_back_rights (taken_back_rights (shown 7 4))
+    ∷ published_rights (taken_back_rights (shown 7 4)) ∷ []
     ≡ rights true false 7 4 ∷ rights true false 7 4 ∷ shown 7 4 ∷ []
 rights_once_taken_back = refl
 
@@ -313,7 +313,7 @@ not_written :
 unfolding pinned_steps byte_told pinning
 not_written = refl
 
--- ---- a store over the end of a page: the first byte that fails tells the page
+-- ---- a store over the end of a page: the first byte that fails says the page
 
 -- mov [address], rax, with RAX all ones
 over_end : List ℕ → ℕ → Option State

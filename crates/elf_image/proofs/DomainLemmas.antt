@@ -1,6 +1,6 @@
 -- The keys that the records of a table have and mark, one record after another.
 use Rattle.std.proofs.Common.{◌≡◌, ℕ, zero, suc, ◌+◌, ◌≤◌, Bool, true, false, ◌||◌, refl, sym}
-use Rattle.std.proofs.Common.{ap, ◌∙◌, arith, List, [], ◌∷◌}
+use Rattle.std.proofs.Common.{ap, ◌∙◌, arith, List}
 use Rattle.std.specs.List.{list_any}
 use Rattle.erim_defs.specs.Inspection.Image.{Record, marks}
 use Rattle.elf_image.specs.declared.records.RecordTable.{RecordTable}

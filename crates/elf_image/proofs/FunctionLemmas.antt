@@ -49,7 +49,7 @@ left-none bytes table index h =
 
 -- ---- the row of functions
 
--- behind all before is behind the last of them
+-- after all before is after the last of them
 behind_last : (seen : List Span) (f : Span)
     → is_behind seen f ≡ leb ((last_seen seen).start + (last_seen seen).length) f.start
 behind_last [] f = sym (le-leb 0 f.start (omega arith))

@@ -1,4 +1,4 @@
--- What an accepted image tells.
+-- What an accepted image lists.
 use Rattle.std.proofs.Common.{◌≡◌, ◌*◌, ℕ, Bool, true, false, List, [], None, refl, sym, ◌∙◌}
 use Rattle.erim_defs.specs.declared.trust.Span.{Span}
 use Rattle.std.specs.List.{list_any}

@@ -1,4 +1,4 @@
--- The lists that an image tells, one item after another.
+-- The lists that an image lists, one item after another.
 use Rattle.std.proofs.Common.{◌≡◌, ℕ, ◌+◌, ◌<◌, ◌≤◌, List, [], ◌∷◌, ◌++◌, true, false, eqb, refl}
 use Rattle.std.proofs.Common.{ap, append_assoc, arith, get_or, length, None, zero, suc, ◌*◌}
 use Rattle.std.proofs.lemmas.List.{append-nil}

@@ -84,7 +84,7 @@ see_all-versioned bytes seen (n ∷ ns) =
     ∙ versioned_step seen.versioned (is_versioned bytes n)
     (list_any (λ n. not (is_versioned bytes n)) ns)
 
--- what a table that was seen before tells, or what notes do
+-- what a table that was seen before says, or what notes do
 abbrev first_items : {T X : Type 0} → (T → X) → Option T → X → X
 first_items items None others = others
 first_items items (Some table) others = items table
@@ -173,7 +173,7 @@ seen-versioned bytes after e =
 
 -- ---- notes between two places
 
--- behind the end there are none
+-- after the end there are none
 past_fault : (bytes : List ℕ) (left place end : ℕ) (trust functions : Bool) → end ≤ place
     → note_fault_between bytes left place end trust functions ≡ None
 unfolding note_fault_between

@@ -12,7 +12,8 @@ use Rattle.erim_defs.specs.Inspection.Image.{Header, entry_point, fault_if, file
 use Rattle.erim_defs.specs.Inspection.Image.{head_fault, header_at, header_count, header_fault}
 use Rattle.erim_defs.specs.Inspection.Image.{header_size, headers, headers_from, is_in_file}
 use Rattle.erim_defs.specs.Inspection.Image.{is_noted, is_ranged, later_fault, machine, note_fault}
-use Rattle.erim_defs.specs.Inspection.Image.{notes, pages_of, range_fault, records, segment_fault}
+use Rattle.erim_defs.specs.Inspection.Image.{notes, header_pages, range_fault, records}
+use Rattle.erim_defs.specs.Inspection.Image.{segment_fault}
 use Rattle.erim_defs.specs.Inspection.Image.{function_fault, has_domains, image_functions}
 use Rattle.erim_defs.specs.Inspection.Image.{segments, static_fault, table_place, trust_fault}
 use Rattle.erim_defs.proofs.FaultLemmas.{cond_fault, later_none, or_none}
@@ -80,16 +81,17 @@ lying_notes file_length i seen bytes place (suc n) zero h lt noted =
     let here : place + 56 * 0 ≡ place = omega arith in
     let P : ℕ → Type 0 = λ p. is_noted (header_at bytes p) ≡ true
     → is_in_file file_length (header_at bytes p).segment ≡ true in
-    subst P (sym here) (λ at_place. ranged_note file_length (sum_by pages_of seen)
+    subst P (sym here) (λ at_place. ranged_note file_length (sum_by header_pages seen)
     (header_at bytes place) at_place
-    (cond_fault (is_ranged file_length (sum_by pages_of seen) (header_at bytes place)) _
+    (cond_fault (is_ranged file_length (sum_by header_pages seen) (header_at bytes place)) _
     (range_fault file_length (i + 1) (header_at bytes place
     ∷ seen) (headers_from bytes (place + 56) n)) h).0) noted
 lying_notes file_length i seen bytes place (suc n) (suc k) h lt noted =
     let there : place + 56 * suc k ≡ place + 56 + 56 * k = omega arith in
     let P : ℕ → Type 0 = λ p. is_noted (header_at bytes p) ≡ true
     → is_in_file file_length (header_at bytes p).segment ≡ true in
-    let rest = (cond_fault (is_ranged file_length (sum_by pages_of seen) (header_at bytes place)) _
+    let rest = (cond_fault (is_ranged file_length (sum_by header_pages seen)
+    (header_at bytes place)) _
     (range_fault file_length (i + 1) (header_at bytes place
     ∷ seen) (headers_from bytes (place + 56) n)) h).1 in
     subst P (sym there) (λ at_place. lying_notes file_length (i + 1) (header_at bytes place
@@ -140,7 +142,7 @@ pub functions_are : (bytes : List ℕ) (seen : NotesSeen) (table : FunctionTable
     → table_functions bytes table ≡ image_functions bytes
 functions_are bytes seen table h same = same ∙ seen-functions bytes seen h.seen_is
 
--- ---- all rows behind the first
+-- ---- all rows after the first
 
 pub later_header : (bytes : List ℕ) (fault : ImageFault) → header_fault bytes ≡ Some fault
     → later_fault bytes ≡ Some fault

@@ -8,7 +8,7 @@ use Rattle.erim_defs.specs.declared.fault.ImageFault.TheVariants.{NotStatic, Seg
 use Rattle.erim_defs.specs.declared.fault.ImageFault.TheVariants.{SharedPage}
 use Rattle.erim_defs.specs.Inspection.Image.{header_at, header_count, headers, headers_from}
 use Rattle.erim_defs.specs.Inspection.Image.{is_dynamic, is_loadable, is_ranged, loadable_segments}
-use Rattle.erim_defs.specs.Inspection.Image.{pages_of, range_fault, shared_fault, shares_page}
+use Rattle.erim_defs.specs.Inspection.Image.{header_pages, range_fault, shared_fault, shares_page}
 use Rattle.erim_defs.specs.Inspection.Image.{static_fault, table_place}
 use Rattle.elf_image.specs.Table.{header_of, headers_left, seen_headers, seen_segments}
 use Rattle.erim_defs.proofs.PlaceLemmas.{ranged_few, total_more}
@@ -83,7 +83,7 @@ unfolding seen_headers
 range_begins file_length bytes = ap (range_fault file_length 0 []) (headers_left-all bytes)
 
 pub range_stops : (file_length index pages : ℕ) (bytes : List ℕ) → index < header_count bytes
-    → sum_by pages_of (seen_headers bytes index) ≡ pages
+    → sum_by header_pages (seen_headers bytes index) ≡ pages
     → is_ranged file_length pages (header_of bytes index) ≡ false
     → range_fault file_length index (seen_headers bytes index) (headers_left bytes index)
     ≡ Some (SegmentRange index)
@@ -92,7 +92,7 @@ range_stops file_length index pages bytes h total test =
     rw (headers_left-next bytes index h) (rw (total, test) refl)
 
 pub range_goes_on : (file_length index pages : ℕ) (bytes : List ℕ) → index < header_count bytes
-    → sum_by pages_of (seen_headers bytes index) ≡ pages
+    → sum_by header_pages (seen_headers bytes index) ≡ pages
     → is_ranged file_length pages (header_of bytes index) ≡ true
     → range_fault file_length index (seen_headers bytes index) (headers_left bytes index)
     ≡ range_fault file_length (index + 1) (seen_headers bytes (index + 1))
@@ -103,14 +103,15 @@ range_goes_on file_length index pages bytes h total test =
     rw (headers_left-next bytes index h) (rw (total, test) (rw more refl))
 
 pub range_pages : (index pages : ℕ) (bytes : List ℕ)
-    → sum_by pages_of (seen_headers bytes index) ≡ pages
-    → sum_by pages_of (seen_headers bytes (index + 1)) ≡ pages + pages_of (header_of bytes index)
+    → sum_by header_pages (seen_headers bytes index) ≡ pages
+    → sum_by header_pages (seen_headers bytes (index + 1))
+    ≡ pages + header_pages (header_of bytes index)
 unfolding seen_headers
 range_pages index pages bytes total =
     let more : index + 1 ≡ suc index = omega arith in
     rw more (total_more (header_of bytes index) (seen_headers bytes index) pages total)
 
-pub range_none : (bytes : List ℕ) → sum_by pages_of (seen_headers bytes 0) ≡ 0
+pub range_none : (bytes : List ℕ) → sum_by header_pages (seen_headers bytes 0) ≡ 0
 unfolding seen_headers
 range_none bytes = refl
 

@@ -1,4 +1,4 @@
--- The trusted part that the records of a table tell.
+-- The trusted part that the records of a table list.
 use Rattle.std.specs.Prelude.{ℕ, ◌==◌, ◌||◌, Bool, List}
 use Rattle.std.specs.List.{list_any}
 use Rattle.erim_defs.specs.declared.page.TheConstants.{TRUSTED_KEY}

@@ -17,13 +17,13 @@ pub record IsSeen (bytes : List ℕ) (seen : NotesSeen) : Type 0 where
   pub seen_is : seen ≡ see_all bytes nothing_seen (notes bytes)
   pub items : HasItems bytes seen
 
--- the rows of notes and records find no fault, and tell the notes, or they find one
+-- the rows of notes and records find no fault, and say the notes, or they find one
 abbrev pub ChecksTrust : List ℕ → Result NotesSeen ImageFault → Type 0
 ChecksTrust bytes result =
     MatchResult result (λ seen. (trust_fault bytes ≡ None)
     × IsSeen bytes seen) (λ fault. trust_fault bytes ≡ Some fault)
 
--- the same of all rows behind the first
+-- the same of all rows after the first
 abbrev pub ChecksLater : List ℕ → Result NotesSeen ImageFault → Type 0
 ChecksLater bytes result =
     MatchResult result (λ seen. (later_fault bytes ≡ None)
@@ -42,7 +42,7 @@ spans_in kind rs = spans_of (λ r. r.kind == kind) rs
 unfoldable pub keys_in : ℕ → List Record → List ℕ
 keys_in kind rs = keys_of (λ r. r.kind == kind) rs
 
--- the bytes are accepted, and the rest is what they tell
+-- the bytes are accepted, and the rest is what they say
 pub record IsRead (bytes : List ℕ) (list : List Segment) (trust : TrustValue)
     (trusted : List Span) (keys : List ℕ) (heaps functions : List Span) (entry : ℕ) : Type 0 where
   pub accepted : IsAccepted bytes

@@ -18,7 +18,7 @@ unfoldable pub functions_left : List ℕ → FunctionTable → ℕ → List Span
 functions_left bytes table index =
     functions_from bytes (table.place + 16 * index) (table.count - index)
 
--- so many functions, the last first
+-- a given number of functions, the last first
 unfoldable pub functions_seen : List ℕ → FunctionTable → ℕ → List Span
 functions_seen bytes table zero = []
 functions_seen bytes table (suc n) = function_of bytes table n ∷ functions_seen bytes table n

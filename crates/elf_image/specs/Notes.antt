@@ -49,7 +49,7 @@ is_sound bytes place end trust functions =
     && (not (trust && is_trust (note_at bytes place))
     && not (functions && is_functions (note_at bytes place)))))
 
--- the records that a trust note tells
+-- the records that a trust note lists
 abbrev pub table_of : List ℕ → Note → RecordTable
 table_of bytes note = record {
   place = note.desc + 8;
@@ -57,7 +57,7 @@ table_of bytes note = record {
   has_domains = number_at bytes note.desc 4 == DOMAINS_VERSION;
 }
 
--- the functions that a functions note tells
+-- the functions that a functions note lists
 abbrev pub functions_of : List ℕ → Note → FunctionTable
 functions_of bytes note = record { place = note.desc + 8; count = item_count bytes note }
 
@@ -92,7 +92,8 @@ abbrev pub seen_functions : List ℕ → Option FunctionTable → List Span
 seen_functions bytes None = []
 seen_functions bytes (Some table) = functions_from bytes table.place table.count
 
--- the notes in so many bytes from a place on are read: what is known then, or their first fault
+-- the notes in a given number of bytes from a place on are read: what is known then, or their first
+-- fault
 abbrev pub Reads : List ℕ → ℕ → ℕ → NotesSeen → Result NotesSeen ImageFault → Type 0
 Reads bytes size start before result =
     MatchResult result

@@ -23,7 +23,7 @@ record_of bytes table index = record_at bytes (table.place + 24 * index)
 unfoldable pub records_left : List ℕ → RecordTable → ℕ → List Record
 records_left bytes table index = records_from bytes (table.place + 24 * index) (table.count - index)
 
--- so many records, the last first
+-- a given number of records, the last first
 unfoldable pub seen_before : List ℕ → RecordTable → ℕ → List Record
 seen_before bytes table zero = []
 seen_before bytes table (suc n) = record_of bytes table n ∷ seen_before bytes table n

@@ -4,7 +4,7 @@ use Rattle.erim_defs.specs.declared.segment.Segment.{Segment}
 use Rattle.erim_defs.specs.Inspection.Image.{Header, header_at, header_count, headers_from}
 use Rattle.erim_defs.specs.Inspection.Image.{loadable_segments, table_place}
 
--- the bytes have a file header and the table that it tells
+-- the bytes have a file header and the table that it says
 pub record HasTable (bytes : List ℕ) : Type 0 where
   pub header : 64 ≤ length bytes
   pub few : header_count bytes ≤ 64
@@ -19,7 +19,7 @@ unfoldable pub headers_left : List ℕ → ℕ → List Header
 headers_left bytes index =
     headers_from bytes (table_place bytes + 56 * index) (header_count bytes - index)
 
--- so many headers, the last first
+-- a given number of headers, the last first
 unfoldable pub seen_headers : List ℕ → ℕ → List Header
 seen_headers bytes zero = []
 seen_headers bytes (suc n) = header_of bytes n ∷ seen_headers bytes n

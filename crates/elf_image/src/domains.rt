@@ -1,4 +1,4 @@
-//! The domains that the records of a trust note tell: a domain is a key that some record has, and
+//! The domains that the records of a trust note list: a domain is a key that some record has, and
 //! the trusted key always; a mark makes its key an integrity domain.
 
 ghost use Rattle.std.specs.Prelude.{◌≡◌, ◌≤◌, [], IfOk, None};
@@ -8,7 +8,7 @@ ghost use Rattle.elf_image.specs.Domains.{domains_in, has_key, integrity_in, tru
 ghost use Rattle.elf_image.specs.Notes.{HasTableOf};
 ghost use Rattle.elf_image.specs.Records.{seen_before, table_records};
 
-use crate::lists::{entries, keys, spans};
+use crate::lists::{entry_addresses, keys, spans};
 use crate::record::Record;
 use crate::records::RecordTable;
 use erim_defs::Trust;
@@ -81,7 +81,7 @@ fn integrity(bytes: &[u8], table: RecordTable) -> [bool; 5]
     ]
 }
 
-/// The trusted part that records without a fault tell.
+/// The trusted part that records without a fault list.
 pub(crate) fn trust(alloc: Global, bytes: &[u8], table: RecordTable) -> Result<Trust, AllocError>
     requires table { HasTableOf bytes.now table }
     requires sound { record_fault table.has_domains 0 [] (table_records bytes.now table) ≡ None }
@@ -90,7 +90,7 @@ pub(crate) fn trust(alloc: Global, bytes: &[u8], table: RecordTable) -> Result<T
 {
     Ok(Trust {
         texts: spans(alloc, bytes, table, TRUSTED_TEXT)?,
-        entries: entries(alloc, bytes, table)?,
+        entries: entry_addresses(alloc, bytes, table)?,
         text_keys: keys(alloc, bytes, table, TRUSTED_TEXT)?,
         entry_keys: keys(alloc, bytes, table, TRUSTED_ENTRY)?,
         domains: domains(bytes, table),

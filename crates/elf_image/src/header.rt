@@ -2,7 +2,7 @@
 
 ghost use Rattle.std.specs.Prelude.{◌≡◌, ◌≤◌, ◌<◌, ◌==◌, ◌&&◌, not};
 ghost use Rattle.erim_defs.specs.Inspection.Image.{header_count, is_dynamic, is_loadable, is_noted};
-ghost use Rattle.erim_defs.specs.Inspection.Image.{is_passed_over, is_ranged, pages_of};
+ghost use Rattle.erim_defs.specs.Inspection.Image.{is_passed_over, is_ranged, header_pages};
 ghost use Rattle.erim_defs.specs.Inspection.Image.{table_place};
 ghost use Rattle.elf_image.specs.Table.{HasTable, header_of};
 
@@ -63,7 +63,7 @@ impl Header {
         self.kind
     }
 
-    /// The segment that the header tells.
+    /// The segment that the header says.
     pub fn segment(&self) -> Segment
         ensures { result ≡ self.now.segment }
     {
@@ -91,7 +91,7 @@ impl Header {
         self.kind == PT_NOTE && self.align != WIDE_NOTE_ALIGNMENT
     }
 
-    /// Does it lie where it may, where so many pages stand before it?
+    /// Does it lie where it may, where a given number of pages stand before it?
     pub(crate) fn is_ranged(&self, file_length: u64, pages: u64) -> bool
         requires { pages ≤ 4080 }
         ensures { result ≡ is_ranged file_length pages self.now }
@@ -106,8 +106,8 @@ impl Header {
     }
 
     /// 0 for what isn't a segment, else its pages.
-    pub(crate) fn pages_of(&self) -> u64
-        ensures { result ≡ pages_of self.now }
+    pub(crate) fn header_pages(&self) -> u64
+        ensures { result ≡ header_pages self.now }
     {
         if self.is_counted() {
             self.segment.page_count()

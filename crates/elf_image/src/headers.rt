@@ -48,7 +48,7 @@ fn range_fault(bytes: &[u8]) -> Option<ImageFault>
         if !header.is_ranged(bytes.len() as u64, pages) {
             return Some(ImageFault::SegmentRange { index });
         }
-        pages += header.pages_of();
+        pages += header.header_pages();
     }
     None
 }

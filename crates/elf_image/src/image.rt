@@ -6,12 +6,13 @@ ghost use Rattle.std.specs.List.{All, AllPairs, list_any};
 ghost use Rattle.erim_defs.specs.Inspection.Trust.{spans};
 ghost use Rattle.erim_defs.specs.Machine.Start.{page_key};
 ghost use Rattle.erim_defs.specs.Inspection.Image.{IsAccepted, IsPlaced, data_keys, entry_point};
-ghost use Rattle.erim_defs.specs.Inspection.Image.{headers};
+ghost use Rattle.erim_defs.specs.Inspection.Image.{header_count, headers};
 ghost use Rattle.erim_defs.specs.Inspection.Image.{image_data, image_functions, image_heaps};
 ghost use Rattle.erim_defs.specs.Inspection.Image.{image_trust};
 ghost use Rattle.erim_defs.specs.Inspection.Image.{page_count, page_total, segments, shares_page};
 ghost use Rattle.erim_defs.specs.Encoding.Parts.{AreBytes};
 ghost use Rattle.erim_defs.specs.Rewriting.NewFile.{old_table};
+ghost use Rattle.elf_image.specs.Table.{HasTable};
 ghost use Rattle.elf_image.specs.Form.{IsSeen};
 
 use crate::domains::trust;
@@ -32,6 +33,28 @@ fn page_sum(segments: &[Segment]) -> u64
     ensures { result ≡ sum_by page_count segments.now }
 {
     segments.iter().map(Segment::page_count).sum()
+}
+
+// An equal list.
+fn copy_list<T: Copy>(list: &Vec<T>) -> Result<Vec<T>, NoMemory>
+    ensures { IfOk result (λ copy. copy.items ≡ list.now.items) }
+{
+    Ok(Vec::from_slice(*list.allocator(), list.as_slice())?)
+}
+
+// An equal trusted part.
+fn copy_trust(trust: &Trust) -> Result<Trust, NoMemory>
+    ensures { IfOk result (λ copy. copy ≡ trust.now) }
+{
+    Ok(Trust {
+        texts: copy_list(&trust.texts)?,
+        entries: copy_list(&trust.entries)?,
+        text_keys: copy_list(&trust.text_keys)?,
+        entry_keys: copy_list(&trust.entry_keys)?,
+        domains: trust.domains,
+        integrity: trust.integrity,
+        strict: trust.strict,
+    })
 }
 
 /// An accepted image. Contracts see it as the bytes that it was read from.
@@ -87,17 +110,43 @@ impl Image {
         })
     }
 
-    /// The bytes that the image was read from.
+    /// An equal image. Fails only where memory ran out.
+    pub fn copy(&self) -> Result<Image, NoMemory>
+        ensures { IfOk result (λ copy. copy ≡ self.now) }
+    {
+        Ok(Image {
+            bytes: copy_list(&self.bytes)?,
+            segments: copy_list(&self.segments)?,
+            trust: copy_trust(&self.trust)?,
+            trusted: copy_list(&self.trusted)?,
+            keys: copy_list(&self.keys)?,
+            heaps: copy_list(&self.heaps)?,
+            functions: copy_list(&self.functions)?,
+            entry: self.entry,
+        })
+    }
+
+    /// The bytes that the image was read from, which have a file header and the table of at most 64
+    /// program headers that it names.
+    #[tactic(auto, using(crate::proofs::ImageLemmas::accepted_table))]
     pub fn bytes(&self) -> &[u8]
         ensures bytes { result.now ≡ self.now }
+        ensures table { HasTable self.now }
         ensures accepted { IsAccepted self.now }
         ensures octets { AreBytes self.now }
     {
         self.bytes.as_slice()
     }
 
+    /// How many program headers it has, at most 64.
+    pub fn header_count(&self) -> u16
+        ensures count { result ≡ header_count self.now }
+        ensures few { result ≤ 64 }
+    {
+        header_count(self.bytes()) as u16
+    }
+
     /// The program headers in table order.
-    #[tactic(auto, using(crate::proofs::ImageLemmas::accepted_table))]
     pub fn headers(&self, alloc: Global) -> Result<Vec<Header>, NoMemory>
         ensures { IfOk result (λ list. list.items ≡ headers self.now) }
     {
@@ -105,7 +154,6 @@ impl Image {
     }
 
     /// The bytes of their table.
-    #[tactic(auto, using(crate::proofs::ImageLemmas::accepted_table))]
     pub fn header_table(&self) -> &[u8]
         ensures { result.now ≡ old_table self.now }
     {

@@ -1,4 +1,4 @@
-//! Reads an image: finds its first fault, or takes what it tells.
+//! Reads an image: finds its first fault, or takes what it says.
 
 ghost use Rattle.std.specs.Prelude.{◌≡◌, ◌≤◌, ◌<◌, length, IfSome, MatchResult};
 ghost use Rattle.erim_defs.specs.Inspection.Image.{IsAccepted, first_fault, has_class, has_magic};
@@ -82,7 +82,7 @@ fn has_class(bytes: &[u8]) -> bool
         && bytes[EI_VERSION] == EV_CURRENT
 }
 
-// The rows behind the first, with the notes that they saw.
+// The rows after the first, with the notes that they saw.
 #[tactic(auto, using(crate::proofs::RowLemmas::later_steps))]
 fn check_later(bytes: &[u8]) -> Result<NotesSeen, ImageFault>
     requires { 64 ≤ length bytes.now }

@@ -1,4 +1,4 @@
-//! The lists that an image tells.
+//! The lists that an image lists.
 
 ghost use Rattle.std.specs.Prelude.{◌≡◌, [], IfOk, None};
 ghost use Rattle.erim_defs.specs.Inspection.Image.{headers, record_fault, segments, starts_of};
@@ -90,7 +90,7 @@ pub(crate) fn keys(
 
 /// The addresses of the entries.
 #[tactic(auto, using(crate::proofs::ListLemmas::entries_steps))]
-pub(crate) fn entries(
+pub(crate) fn entry_addresses(
     alloc: Global,
     bytes: &[u8],
     table: RecordTable,

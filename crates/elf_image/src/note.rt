@@ -53,7 +53,7 @@ pub(crate) fn is_whole(bytes: &[u8], place: usize, end: usize) -> bool
         && parts_size(bytes, place) <= (end - place - NOTE_HEADER_SIZE) as u64
 }
 
-// Where the next note begins, or the last place where it would begin behind it.
+// Where the next note begins, or the last place where it would begin after it.
 pub(crate) fn next_note(bytes: &[u8], place: usize, end: usize) -> usize
     requires header { place + 12 ≤ end }
     requires within { end ≤ length bytes.now }

@@ -92,8 +92,8 @@ fn read_header(bytes: &[u8], header: &Header, before: NotesSeen) -> Result<Notes
     )
 }
 
-// Reads the notes in so many bytes from a place on. Each has 12 bytes at least, so as many steps as
-// bytes are enough.
+// Reads the notes in a given number of bytes from a place on. Each has 12 bytes at least, so as
+// many steps as bytes are enough.
 fn read_between(
     bytes: &[u8],
     start: usize,

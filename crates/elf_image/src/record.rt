@@ -93,14 +93,14 @@ impl Record {
             || (domains && self.kind != TRUSTED_HEAP && self.key > 0 && self.key <= MOST_DOMAINS)
     }
 
-    /// Does it tell trusted text?
+    /// Does it say trusted text?
     pub(crate) fn is_text(&self) -> bool
         ensures { result ≡ is_text self.now }
     {
         self.kind == TRUSTED_TEXT
     }
 
-    /// Does it tell an entry?
+    /// Does it say an entry?
     pub(crate) fn is_entry_record(&self) -> bool
         ensures { result ≡ is_entry_record self.now }
     {
@@ -121,7 +121,7 @@ impl Record {
         self.is_mark() && self.key == key
     }
 
-    /// Does it tell text, data or a heap?
+    /// Does it say text, data or a heap?
     pub(crate) fn is_range(&self) -> bool
         ensures { result ≡ is_range self.now }
     {

@@ -31,7 +31,7 @@ fn main(rt: HostRuntime) -> ExitCode {
     let mut out = OutSink::new(&rt);
     let status = erim_plain(rt.alloc(), words.as_slice(), &mut store, &mut out);
     if status == NOT_UNDERSTOOD {
-        // The answer is told already, so a usage that can't be written is no failure.
+        // The answer is written already, so a usage that can't be written is no failure.
         let _ = eprint!(rt; "{USAGE}");
     }
     ExitCode::from(status)

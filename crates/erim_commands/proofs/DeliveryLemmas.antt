@@ -1,6 +1,7 @@
 -- How a reply's delivery ends, and how a plan is carried out, from how the parts of a call ended.
 use Rattle.std.proofs.Common.{◌≡◌, ◌∙◌, ℕ, ◌<◌, ◌≤◌, List, ◌⊎◌, ◌++◌, ◌∷◌, [], length, replicate}
-use Rattle.std.proofs.Common.{Option, Some, None, Result, Ok, Err, refl, sym, ap, subst, arith, inl, inr}
+use Rattle.std.proofs.Common.{Option, Some, None, Result, Ok, Err, refl, sym, ap, subst, arith, inl}
+use Rattle.std.proofs.Common.{inr}
 use Rattle.std.specs.Prelude.{codes, IsSomeAnd, IfOk, IfSome, ◌≢◌}
 use Rattle.std.specs.Io.KnownBytes.{Keeps}
 use Rattle.std.proofs.Math.ListN.{length-replicate}
@@ -12,22 +13,23 @@ use Rattle.erim_defs.specs.declared.fault.ImageFault.TheVariants.{Memory as NoRo
 use Rattle.erim_defs.specs.declared.journal.JournalFault.{JournalFault}
 use Rattle.erim_defs.specs.declared.journal.JournalFault.TheVariants.{Memory as NoJournalRoom}
 use Rattle.erim_defs.specs.declared.memory.NoMemory.{NoMemory}
+use Rattle.erim_defs.specs.Encoding.Parts.{AreBytes}
 use Rattle.erim_defs.specs.declared.machine.Entry.{Entry}
 use Rattle.erim_defs.specs.Machine.State.{Setup, State}
 use Rattle.erim_defs.specs.Output.Journal.{journal_fault}
 use Rattle.erim_defs.specs.Output.Texts.{error_line, fault_text, journal_fault_text}
-use Rattle.erim_commands.specs.declared.reply.Reply.{Reply as Made}
+use Rattle.erim_commands.specs.declared.reply.Reply.{Reply as CodeReply}
 use Rattle.erim_commands.specs.declared.reply.Status.{Status}
 use Rattle.erim_commands.specs.declared.reply.Status.TheVariants.{ImageRefused, JournalRefused}
 use Rattle.erim_commands.specs.Statuses.{code_of}
 use Rattle.erim_commands.specs.Replies.{Saved, Reply, Answer, One, Ran, Replayed, IsAnswer}
-use Rattle.erim_commands.specs.Replies.{IsRunReply, IsReplayReply, told, journal_refusal}
+use Rattle.erim_commands.specs.Replies.{IsRunReply, IsReplayReply, line_reply, journal_refusal}
 use Rattle.erim_commands.specs.Plans.{Plan, Ask, Tell, unless}
-use Rattle.erim_commands.specs.Commands.{Format, refused, with_file}
+use Rattle.erim_commands.specs.Commands.{Format, refusal_answer, with_file}
 use Rattle.erim_commands.specs.Delivery.{World, KeepsStore, IsUntouched, HasNotLoaded, HasNotKept}
 use Rattle.erim_commands.specs.Delivery.{HoldsMore, Delivers, Carries}
 use Rattle.erim_commands.specs.CallParts.{reply_of, Puts, SavesHeld, noted_file, Loads, EndsAs}
-use Rattle.erim_commands.specs.CallParts.{IsMadeFor, Passes}
+use Rattle.erim_commands.specs.CallParts.{IsReplyFor, Passes}
 
 -- ---- a reply's delivery
 
@@ -151,7 +153,7 @@ carries_line reply old new status store put =
 -- ---- the step of a plan that loads and reads a file
 
 abbrev pub too_large : {X : Type 0} → Format X → Reply
-too_large format = told format.status format.too_large
+too_large format = line_reply format.status format.too_large
 
 -- a load that ended the call
 pub file_unloaded : {X : Type 0} (Z : Type 0) (format : Format X) (name : Name)
@@ -166,10 +168,10 @@ file_unloaded Z format name next old new status (inr (inr nothing)) = inr (inr (
 -- it was loaded and has no fault
 pub file_passes : {X : Type 0} (format : Format X) (name : Name) (bytes : List ℕ) (x : X)
     (old new : World) → new ≡ old
-    → Holds old.held name (Some bytes) → length bytes ≤ format.limit
+    → Holds old.held name (Some bytes) → length bytes ≤ format.limit → AreBytes bytes
     → format.fault bytes ≡ None → x ≡ format.value bytes
     → Passes (with_file format name) old new (Ok x)
-file_passes {X} format name bytes x old new same holds within fine is =
+file_passes {X} format name bytes x old new same holds within are fine is =
     let P : X → Type 0 = λ i. Passes (with_file format name) old new (Ok i) in
     subst P (sym is) (same, go)
   where
@@ -178,45 +180,49 @@ file_passes {X} format name bytes x old new same holds within fine is =
         → Carries IsAnswer (with_file format name next) old later status
     go next later status rest =
         (let here : Carries IsAnswer
-        (unless (format.fault bytes) (refused format.status) (next (format.value bytes))) old
+        (unless (format.fault bytes) (refusal_answer format.status) (next (format.value bytes))) old
         later status = rw fine rest in
-        inl (bytes, holds, within, here))
+        inl (bytes, holds, within, are, here))
 
--- a reply that was made, or want of memory
-pub made_one : (reply : Reply) (r : Result Made NoMemory) → IfOk r (λ m. reply_of m ≡ reply)
-    → IsMadeFor (Tell (One reply)) r
-made_one reply (Ok m) is = is
-made_one reply (Err e) is = tt
+-- one reply, or out of memory
+pub reply_for_one : (reply : Reply) (r : Result CodeReply NoMemory)
+    → IfOk r (λ m. reply_of m ≡ reply) → IsReplyFor (Tell (One reply)) r
+reply_for_one reply (Ok m) is = is
+reply_for_one reply (Err e) is = tt
 
 -- a cause for which the plan ends, which a reply says
-pub refused_made : (status : Status) (cause : Option (List ℕ)) (text : List ℕ) (next : Plan Answer)
-    (r : Result Made NoMemory) → cause ≡ Some text → IfOk r (λ m. reply_of m ≡ told status text)
-    → IsMadeFor (unless cause (refused status) next) r
-refused_made status cause text next r bad made = rw bad (made_one (told status text) r made)
+pub reply_for_refusal : (status : Status) (cause : Option (List ℕ)) (text : List ℕ)
+    (next : Plan Answer)
+    (r : Result CodeReply NoMemory) → cause ≡ Some text
+    → IfOk r (λ m. reply_of m ≡ line_reply status text)
+    → IsReplyFor (unless cause (refusal_answer status) next) r
+reply_for_refusal status cause text next r bad replies =
+    rw bad (reply_for_one (line_reply status text) r replies)
 
 -- no cause
-pub passes_made : (status : Status) (cause : Option (List ℕ)) (next : Plan Answer)
-    (r : Result Made NoMemory) → cause ≡ None → IsMadeFor next r
-    → IsMadeFor (unless cause (refused status) next) r
-passes_made status cause next r fine made = rw fine made
+pub reply_for_passing : (status : Status) (cause : Option (List ℕ)) (next : Plan Answer)
+    (r : Result CodeReply NoMemory) → cause ≡ None → IsReplyFor next r
+    → IsReplyFor (unless cause (refusal_answer status) next) r
+reply_for_passing status cause next r fine replies = rw fine replies
 
--- it was loaded and has a fault, which was told
+-- it was loaded and has a fault, which was said
 pub file_faulty : {X : Type 0} (format : Format X) (name : Name) (bytes slice : List ℕ)
-    (old mid new : World) (reply : Result Made NoMemory) (status : ℕ) → mid ≡ old
-    → Holds old.held name (Some bytes) → length bytes ≤ format.limit → slice ≡ bytes
+    (old mid new : World) (reply : Result CodeReply NoMemory) (status : ℕ) → mid ≡ old
+    → Holds old.held name (Some bytes) → length bytes ≤ format.limit → AreBytes bytes
+    → slice ≡ bytes
     → ((next : Plan Answer)
-    → IsMadeFor (unless (format.fault slice) (refused format.status) next) reply)
-    → ((plan : Plan Answer) → IsMadeFor plan reply → Carries IsAnswer plan mid new status)
+    → IsReplyFor (unless (format.fault slice) (refusal_answer format.status) next) reply)
+    → ((plan : Plan Answer) → IsReplyFor plan reply → Carries IsAnswer plan mid new status)
     → (next : X → Plan Answer) → Carries IsAnswer (with_file format name next) old new status
-file_faulty format name bytes slice old mid new reply status same holds within is made concluded
-    next =
+file_faulty format name bytes slice old mid new reply status same holds within are is replies
+    concluded next =
     let rest : List ℕ → Plan Answer =
-    λ bs. unless (format.fault bs) (refused format.status) (next (format.value bytes)) in
-    let told_so : Carries IsAnswer (rest slice) old new status =
+    λ bs. unless (format.fault bs) (refusal_answer format.status) (next (format.value bytes)) in
+    let said_so : Carries IsAnswer (rest slice) old new status =
     carries_from (rest slice) mid old new status same
-    (concluded (rest slice) (made (next (format.value bytes)))) in
+    (concluded (rest slice) (replies (next (format.value bytes)))) in
     let P : List ℕ → Type 0 = λ bs. Carries IsAnswer (rest bs) old new status in
-    inl (bytes, holds, within, subst P is told_so)
+    inl (bytes, holds, within, are, subst P is said_so)
 
 -- what followed a file that was read
 pub file_next : {X : Type 0} (format : Format X) (name : Name) (next : X → Plan Answer) (x : X)
@@ -240,15 +246,15 @@ read_accepted bytes image (Some fault) faulty accepted = absurd cc
 
 -- or they have this one, which a reply says
 pub read_faulty : (fault : ImageFault) (first : Option ImageFault) (next : Plan Answer)
-    (r : Result Made NoMemory) → IfSome first (λ f. fault_of fault ≡ Err f)
+    (r : Result CodeReply NoMemory) → IfSome first (λ f. fault_of fault ≡ Err f)
     → (first ≡ None → fault ≡ NoRoom)
-    → IfOk r (λ m. (fault ≢ NoRoom) × (reply_of m ≡ told ImageRefused (fault_text fault)))
-    → IsMadeFor (unless (option_map fault_text first) (refused ImageRefused) next) r
-read_faulty fault first next (Err e) faulty accepted made = tt
-read_faulty fault None next (Ok m) faulty accepted made = absurd (made.0 (accepted refl))
-read_faulty fault (Some f) next (Ok m) faulty accepted made =
+    → IfOk r (λ m. (fault ≢ NoRoom) × (reply_of m ≡ line_reply ImageRefused (fault_text fault)))
+    → IsReplyFor (unless (option_map fault_text first) (refusal_answer ImageRefused) next) r
+read_faulty fault first next (Err e) faulty accepted replies = tt
+read_faulty fault None next (Ok m) faulty accepted replies = absurd (replies.0 (accepted refl))
+read_faulty fault (Some f) next (Ok m) faulty accepted replies =
     let same : f ≡ fault = cc in
-    made.1 ∙ ap (λ x. told ImageRefused (fault_text x)) (sym same)
+    replies.1 ∙ ap (λ x. line_reply ImageRefused (fault_text x)) (sym same)
 
 -- ---- what reading a journal says
 
@@ -259,29 +265,30 @@ journal_accepted bytes none = ap (option_map journal_fault_text) none
 
 -- or they have this one, which a reply says
 pub journal_faulty : (fault : JournalFault) (first : Option JournalFault) (next : Plan Answer)
-    (r : Result Made NoMemory) → (fault ≡ NoJournalRoom) ⊎ (first ≡ Some fault)
+    (r : Result CodeReply NoMemory) → (fault ≡ NoJournalRoom) ⊎ (first ≡ Some fault)
     → IfOk r (λ m. (fault ≢ NoJournalRoom)
-    × (reply_of m ≡ told JournalRefused (journal_fault_text fault)))
-    → IsMadeFor (unless (option_map journal_fault_text first) (refused JournalRefused) next) r
-journal_faulty fault first next (Err e) is made = tt
-journal_faulty fault first next (Ok m) (inl memory) made = absurd (made.0 memory)
-journal_faulty fault first next (Ok m) (inr found) made = rw found made.1
+    × (reply_of m ≡ line_reply JournalRefused (journal_fault_text fault)))
+    → IsReplyFor
+    (unless (option_map journal_fault_text first) (refusal_answer JournalRefused) next) r
+journal_faulty fault first next (Err e) is replies = tt
+journal_faulty fault first next (Ok m) (inl memory) replies = absurd (replies.0 memory)
+journal_faulty fault first next (Ok m) (inr found) replies = rw found replies.1
 
 -- ---- the replies of runs
 
--- a run's reply that was made for the setup
-pub ran_made : (told_of : List Entry → State → List ℕ) (journal : Name) (given setup : Setup)
-    (r : Result Made NoMemory) → given ≡ setup
-    → IfOk r (λ m. IsRunReply told_of journal given (reply_of m))
-    → IsMadeFor (Tell (Ran told_of journal setup)) r
-ran_made told_of journal given setup (Ok m) same is =
-    let P : Setup → Type 0 = λ s. IsRunReply told_of journal s (reply_of m) in subst P same is
-ran_made told_of journal given setup (Err e) same is = tt
+-- a run's reply, for the setup
+pub reply_for_run : (text_of : List Entry → State → List ℕ) (journal : Name) (given setup : Setup)
+    (r : Result CodeReply NoMemory) → given ≡ setup
+    → IfOk r (λ m. IsRunReply text_of journal given (reply_of m))
+    → IsReplyFor (Tell (Ran text_of journal setup)) r
+reply_for_run text_of journal given setup (Ok m) same is =
+    let P : Setup → Type 0 = λ s. IsRunReply text_of journal s (reply_of m) in subst P same is
+reply_for_run text_of journal given setup (Err e) same is = tt
 
 -- and that of a replay
-pub replayed_made : (given setup : Setup) (entries : List Entry) (r : Result Made NoMemory)
+pub reply_for_replay : (given setup : Setup) (entries : List Entry) (r : Result CodeReply NoMemory)
     → given ≡ setup → IfOk r (λ m. IsReplayReply given entries (reply_of m))
-    → IsMadeFor (Tell (Replayed setup entries)) r
-replayed_made given setup entries (Ok m) same is =
+    → IsReplyFor (Tell (Replayed setup entries)) r
+reply_for_replay given setup entries (Ok m) same is =
     let P : Setup → Type 0 = λ s. IsReplayReply s entries (reply_of m) in subst P same is
-replayed_made given setup entries (Err e) same is = tt
+reply_for_replay given setup entries (Err e) same is = tt

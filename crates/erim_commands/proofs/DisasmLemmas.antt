@@ -15,7 +15,7 @@ passed_over (suc k) a [] = refl
 passed_over (suc k) a (b ∷ bs) = passed_over k (a + 1) bs
     ∙ ap (λ (at : ℕ). lines_of at (drop k bs)) (omega arith)
 
--- the line of what stands first, and those of the bytes behind it
+-- the line of what stands first, and those of the bytes after it
 pub lines_step : (a size : ℕ) (code : List ℕ) → 0 < length code → 0 < size
     → size ≡ first_size (decode code)
     → lines_of a code ≡ first_line a (slice_index code 0) (decode code)
@@ -36,7 +36,7 @@ pub to_the_end : (code : List ℕ) (done : ℕ)
 to_the_end code done = take_all (length code - done) (drop done code)
     (omega (arith, length-drop done code))
 
--- so many bytes of the code have their lines
+-- a given number of bytes of the code have their lines
 pub record HasLines (old text : List ℕ) (base done : ℕ) (code : List ℕ) : Type 0 where
   pub within : done ≤ length code
   pub lines : text ++ lines_of (base + done) (drop done code) ≡ old ++ lines_of base code

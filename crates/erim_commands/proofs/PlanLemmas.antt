@@ -1,11 +1,13 @@
--- What a plan that was carried out tells, for every plan.
+-- What a plan that was carried out says, for every plan.
 use Rattle.std.proofs.Common.{◌≡◌, ◌≢◌, ◌∙◌, ℕ, List, length, Option, Some, refl, sym, subst, arith}
 use Rattle.std.proofs.Common.{inl, inr, le-ltb, lt-ltb}
-use Rattle.std.specs.Prelude.{◌⊎◌}
+use Rattle.std.specs.Prelude.{◌⊎◌, ◌<◌, ◌≤◌, ⊤}
 use Rattle.erim_io.specs.Store.{Name, Files, Holds}
+use Rattle.erim_defs.specs.Encoding.Parts.{AreBytes}
 use Rattle.erim_commands.specs.declared.reply.Status.{Status}
 use Rattle.erim_commands.specs.declared.reply.Status.TheVariants.{Done, AtFault, NotUnderstood}
-use Rattle.erim_commands.specs.declared.reply.Status.TheVariants.{ImageRefused, JournalRefused, Spent}
+use Rattle.erim_commands.specs.declared.reply.Status.TheVariants.{ImageRefused, JournalRefused}
+use Rattle.erim_commands.specs.declared.reply.Status.TheVariants.{Spent}
 use Rattle.erim_commands.specs.declared.reply.Status.TheVariants.{RewriteRefused}
 use Rattle.erim_commands.specs.Statuses.{code_of}
 use Rattle.erim_commands.specs.Replies.{Reply}
@@ -16,7 +18,7 @@ use Rattle.erim_commands.specs.Promises.{IsReplying, IsReplied, TellsEnd, IsFaul
 use Rattle.erim_commands.specs.Promises.{TellsFaultless}
 use Rattle.erim_commands.specs.Promises.{TellsMemory}
 
--- no reply has the number of what failed, or that of want of memory
+-- no reply has the number of what failed, or that of out of memory
 pub code_not_4 : (s : Status) → code_of s ≢ 4
 code_not_4 Done e = omega (arith, e)
 code_not_4 AtFault e = omega (arith, e)
@@ -34,6 +36,13 @@ code_not_5 ImageRefused e = omega (arith, e)
 code_not_5 JournalRefused e = omega (arith, e)
 code_not_5 Spent e = omega (arith, e)
 code_not_5 RewriteRefused e = omega (arith, e)
+
+-- each file that a plan comes to over these files, and goes on by, has bytes
+abbrev pub LoadsBytes : {A : Type 0} → Plan A → Files → Type 0
+LoadsBytes (Tell a) files = ⊤
+LoadsBytes (Ask name limit too_large next) files =
+    (bytes : List ℕ) → files name ≡ Some bytes → length bytes ≤ limit
+    → AreBytes bytes × LoadsBytes (next bytes) files
 
 module _ {A : Type 0} (IsAnswer : A → Reply → Type 0) where
   -- a delivery that was no fault is whole
@@ -54,7 +63,7 @@ module _ {A : Type 0} (IsAnswer : A → Reply → Type 0) where
   tells_end (Ask name limit a next) old new status (inl on) files held replying =
       let there : files name ≡ Some on.0 =
       subst (λ (h : Option Files). Holds h name (Some on.0)) held on.1 in
-      let rest = tells_end (next on.0) old new status on.3 files held replying in
+      let rest = tells_end (next on.0) old new status on.4 files held replying in
       (rest.0, rw (there, le-ltb limit (length on.0) on.2) rest.1, rest.2)
   tells_end (Ask name limit a next) old new status (inr (inl (long, answers))) files held replying =
       let there : files name ≡ Some long.0 =
@@ -67,6 +76,32 @@ module _ {A : Type 0} (IsAnswer : A → Reply → Type 0) where
   tells_end (Ask name limit a next) old new status (inr (inr (inl lost))) files held replying =
       absurd (replying.0 lost.0)
   tells_end (Ask name limit a next) old new status (inr (inr (inr nothing))) files held replying =
+      absurd (replying.1 nothing.0)
+
+  -- a plan that was carried out went on by bytes alone
+  pub loads_bytes : (plan : Plan A) (old new : World) (status : ℕ) (files : Files)
+      → Carries IsAnswer plan old new status → old.held ≡ Some files → IsReplying status
+      → LoadsBytes plan files
+  loads_bytes (Tell a) old new status files carries held replying = tt
+  loads_bytes (Ask name limit a next) old new status files (inl on) held replying =
+      λ bytes there within.
+      let here : files name ≡ Some on.0 =
+      subst (λ (h : Option Files). Holds h name (Some on.0)) held on.1 in
+      let same : on.0 ≡ bytes = (let e = sym here ∙ there in cc) in
+      let P : List ℕ → Type 0 = λ bs. AreBytes bs × LoadsBytes (next bs) files in
+      subst P same
+      (on.3, loads_bytes (next on.0) old new status files on.4 held replying)
+  loads_bytes (Ask name limit a next) old new status files (inr (inl (long, answers))) held
+      replying =
+      λ bytes there within.
+      let here : files name ≡ Some long.0 =
+      subst (λ (h : Option Files). Holds h name (Some long.0)) held long.1 in
+      let same : long.0 ≡ bytes = (let e = sym here ∙ there in cc) in
+      let over : limit < length bytes = subst (λ (bs : List ℕ). limit < length bs) same long.2 in
+      absurd (omega (arith, over, within))
+  loads_bytes (Ask name limit a next) old new status files (inr (inr (inl lost))) held replying =
+      absurd (replying.0 lost.0)
+  loads_bytes (Ask name limit a next) old new status files (inr (inr (inr nothing))) held replying =
       absurd (replying.1 nothing.0)
 
   untouched_faultless : (old new : World) → IsUntouched old new → IsFaultless old new
@@ -88,7 +123,7 @@ module _ {A : Type 0} (IsAnswer : A → Reply → Type 0) where
   tells_faultless (Tell a) old new status (inr nothing) other =
       untouched_faultless old new nothing.1
   tells_faultless (Ask name limit a next) old new status (inl on) other =
-      tells_faultless (next on.0) old new status on.3 other
+      tells_faultless (next on.0) old new status on.4 other
   tells_faultless (Ask name limit a next) old new status (inr (inl (long, answers))) other =
       faultless_by a old new status answers other
   tells_faultless (Ask name limit a next) old new status (inr (inr (inl lost))) other =
@@ -109,7 +144,7 @@ module _ {A : Type 0} (IsAnswer : A → Reply → Type 0) where
   tells_memory (Tell a) old new status (inl answers) five = memory_by a old new status answers five
   tells_memory (Tell a) old new status (inr nothing) five = nothing.1
   tells_memory (Ask name limit a next) old new status (inl on) five =
-      tells_memory (next on.0) old new status on.3 five
+      tells_memory (next on.0) old new status on.4 five
   tells_memory (Ask name limit a next) old new status (inr (inl (long, answers))) five =
       memory_by a old new status answers five
   tells_memory (Ask name limit a next) old new status (inr (inr (inl lost))) five =
@@ -132,7 +167,7 @@ module _ {A : Type 0} (IsAnswer : A → Reply → Type 0) where
   always_replied L P (Tell a) old new status p (inr nothing) replying =
       absurd (replying.1 nothing.0)
   always_replied L P (Ask name limit a next) old new status p (inl on) replying =
-      always_replied L P (next on.0) old new status (p.2 on.0) on.3 replying
+      always_replied L P (next on.0) old new status (p.2 on.0) on.4 replying
   always_replied L P (Ask name limit a next) old new status p (inr (inl (long, answers))) replying =
       (a, p.1, replied a old new status answers replying)
   always_replied L P (Ask name limit a next) old new status p (inr (inr (inl lost))) replying =
@@ -165,7 +200,7 @@ module _ {A : Type 0} (IsAnswer : A → Reply → Type 0) where
   always_failed L P (Tell a) old new status p (inr nothing) four =
       absurd (omega (arith, nothing.0, four))
   always_failed L P (Ask name limit a next) old new status p (inl on) four =
-      always_failed L P (next on.0) old new status (p.2 on.0) on.3 four
+      always_failed L P (next on.0) old new status (p.2 on.0) on.4 four
   always_failed L P (Ask name limit a next) old new status p (inr (inl (long, answers))) four =
       failed_by L P a old new status p.1 answers four
   always_failed L P (Ask name limit a next) old new status p (inr (inr (inl lost))) four =

@@ -1,43 +1,45 @@
--- What the end of a call tells, command by command.
+-- What the end of a call says, command by command.
 use Rattle.std.proofs.Common.{◌≡◌, ◌≢◌, ◌⊎◌, ◌∙◌, List, ◌∷◌, ◌++◌, [], length, ℕ, Option, Some}
 use Rattle.std.proofs.Common.{None, Result, Ok, Err, eqb, sym, ap, refl, arith, inl, inr}
 use Rattle.std.specs.Prelude.{codes, ⊤, ◌↔◌, ◌==◌, if◌then◌else◌}
 use Rattle.std.proofs.lemmas.Bool.{cases_Bool, eqb-true, eqb-false}
 use Rattle.std.proofs.lemmas.List.{length-append}
 use Rattle.erim_io.specs.Store.{Name, Files}
-use Rattle.erim_io.specs.Sink.{HasRisen}
 use Rattle.erim_defs.specs.declared.found.Found.{Found}
 use Rattle.erim_defs.specs.declared.machine.End.{End}
 use Rattle.erim_defs.specs.declared.machine.End.TheVariants.{Exit, Fault, Refused}
 use Rattle.erim_defs.specs.declared.machine.Entry.{Entry}
+use Rattle.erim_defs.specs.declared.limits.TheConstants.{USUAL_FRAMES, USUAL_STEPS}
 use Rattle.erim_defs.specs.Inspection.Unsafe.{image_list}
 use Rattle.erim_defs.specs.Machine.State.{Setup, State}
 use Rattle.erim_defs.specs.Output.Journal.{JournalValue, journal_of}
-use Rattle.erim_defs.specs.Output.MadeTexts.{soak_line}
+use Rattle.erim_defs.specs.Output.GeneratedTexts.{soak_line}
 use Rattle.erim_defs.specs.Output.Report.{report}
 use Rattle.erim_defs.specs.Output.RewriteTexts.{rewrite_text}
 use Rattle.erim_defs.specs.Output.Words.{Command, Inspect, Disasm, Run, Replay, Rewrite, Gen, Soak}
 use Rattle.erim_defs.specs.Rewriting.Rewriting.{Rewritten, NotImage, Cannot, NoRoom, rewriting}
 use Rattle.erim_defs.specs.Rewriting.Rewriting as definitions
 use Rattle.rewriting_laws.specs.QuietLaws.{AnswerLaw}
-use Rattle.thread_runner.specs.declared.replays.ReplayFault.{ReplayFault}
-use Rattle.thread_runner.specs.declared.replays.ReplayFault.TheVariants.{Start, PastEnd}
-use Rattle.thread_runner.specs.declared.replays.ReplayFault.TheVariants.{PastBudget, NotLive}
-use Rattle.thread_runner.specs.declared.replays.ReplayFault.TheVariants.{Unfinished}
-use Rattle.thread_runner.specs.Replays.{replay_fault}
+use Rattle.erim_defs.specs.declared.replay_fault.ReplayFault.{ReplayFault}
+use Rattle.erim_defs.specs.declared.replay_fault.ReplayFault.TheVariants.{Start, PastEnd}
+use Rattle.erim_defs.specs.declared.replay_fault.ReplayFault.TheVariants.{PastBudget, NotLive}
+use Rattle.erim_defs.specs.declared.replay_fault.ReplayFault.TheVariants.{Unfinished}
+use Rattle.erim_defs.specs.Machine.ReplayFaults.{replay_fault, UnbrokenLaw}
 use Rattle.erim_commands.specs.declared.reply.Status.{Status}
 use Rattle.erim_commands.specs.declared.reply.Status.TheVariants.{NotUnderstood, ImageRefused}
 use Rattle.erim_commands.specs.declared.reply.Status.TheVariants.{JournalRefused, RewriteRefused}
 use Rattle.erim_commands.specs.Statuses.{code_of}
-use Rattle.erim_commands.specs.Replies.{Saved, Reply, Answer, One, Ran, Replayed, IsAnswer, told}
+use Rattle.erim_commands.specs.Replies.{Saved, Reply, Answer, One, Ran, Replayed, IsAnswer}
+use Rattle.erim_commands.specs.Replies.{line_reply}
 use Rattle.erim_commands.specs.Replies.{start_refusal, break_status, break_text, list_status}
-use Rattle.erim_commands.specs.Replies.{listed_reply, rewrite_status, rewritten_reply}
-use Rattle.erim_commands.specs.Replies.{disasm_reply, gen_reply, end_status, ran_reply}
-use Rattle.erim_commands.specs.Replies.{replayed_reply}
+use Rattle.erim_commands.specs.Replies.{list_reply, rewrite_status, rewrite_reply}
+use Rattle.erim_commands.specs.Replies.{disasm_reply, gen_reply, end_status, run_reply}
+use Rattle.erim_commands.specs.Replies.{replay_reply}
 use Rattle.erim_commands.specs.Plans.{Plan, Tell, unless, end_of}
-use Rattle.erim_commands.specs.Commands.{Format, image_format, journal_format, refused, with_file}
+use Rattle.erim_commands.specs.Commands.{Format, image_format, journal_format, refusal_answer}
+use Rattle.erim_commands.specs.Commands.{with_file}
 use Rattle.erim_commands.specs.Commands.{started_run, started_replay, run_setup, replay_setup}
-use Rattle.erim_commands.specs.Commands.{soak_setup, refused_break, rewrite_plan, plan_of}
+use Rattle.erim_commands.specs.Commands.{soak_setup, break_answer, rewrite_plan, plan_of}
 use Rattle.erim_commands.specs.Commands.{plan_for}
 use Rattle.erim_commands.specs.Delivery.{World, IsAnswered, HasNotKept, Carries}
 use Rattle.erim_commands.specs.Promises.{IsReplying, IsReplied, TellsWords, TellsRefusal}
@@ -47,9 +49,11 @@ use Rattle.erim_commands.specs.Promises.{TellsWork, IsLoadedBy, IsSavedBy}
 use Rattle.erim_commands.specs.Promises.{Does, GainsLoad, GainsSave, CountsPut, TellsFault}
 use Rattle.erim_commands.specs.Promises.{IsComplete}
 use Rattle.erim_commands.proofs.PlanLemmas.{tells_end, Always, always_replied, Failure}
-use Rattle.erim_commands.proofs.PlanLemmas.{always_failed}
+use Rattle.erim_commands.proofs.PlanLemmas.{always_failed, LoadsBytes, loads_bytes}
 use Rattle.erim_commands.proofs.EndLemmas.{IsRead, Stops, file_end, unless_end, some_is}
-use Rattle.erim_commands.proofs.ReplayLemmas.{replays_run, saved_spelling, seed_accepted, seed_starts}
+use Rattle.erim_commands.proofs.EndLemmas.{file_bytes}
+use Rattle.erim_commands.proofs.ReplayLemmas.{replays_run, saved_spelling, seed_accepted}
+use Rattle.erim_commands.proofs.ReplayLemmas.{seed_starts, LengthLaw, AcceptedLaw, StartableLaw}
 
 -- ---- what the replies of a command's ends are
 
@@ -101,9 +105,9 @@ one_own command r other save reply is =
     } in own)
 
 refused_own : (command : Command) (status : Status) (text : List ℕ) → Refuses status
-    → AnswersOwn (Some command) (refused status text)
+    → AnswersOwn (Some command) (refusal_answer status text)
 refused_own command status text refuses =
-    one_own command (told status text) (refuses_not_2 status refuses) tt
+    one_own command (line_reply status text) (refuses_not_2 status refuses) tt
 
 list_not_2 : (os : List Found) → code_of (list_status os) ≢ 2
 list_not_2 [] = omega arith
@@ -115,10 +119,10 @@ end_not_2 (Some (Exit code)) = omega arith
 end_not_2 (Some (Fault thread rip cause addr)) = omega arith
 end_not_2 (Some (Refused page found thread)) = omega arith
 
-ran_own : (command : Command) (told_of : List Entry → State → List ℕ) (journal : Name)
+ran_own : (command : Command) (text_of : List Entry → State → List ℕ) (journal : Name)
     (setup : Setup) → IsSavedBy (Some command) journal
-    → AnswersOwn (Some command) (Ran told_of journal setup)
-ran_own command told_of journal setup saves reply is =
+    → AnswersOwn (Some command) (Ran text_of journal setup)
+ran_own command text_of journal setup saves reply is =
     rw is.answer (record {
       understood = known command (code_of (end_status is.last.end)) (end_not_2 is.last.end);
       save = saves;
@@ -150,7 +154,7 @@ file_own : {X : Type 0} (command : Command) (format : Format X) (name : Name)
 file_own command format name next refuses loads own = (
   loads,
   refused_own command format.status format.too_large refuses,
-  λ bytes. unless_own command (format.fault bytes) (refused format.status)
+  λ bytes. unless_own command (format.fault bytes) (refusal_answer format.status)
       (next (format.value bytes)) (λ text. refused_own command format.status text refuses)
       (own (format.value bytes)),
 )
@@ -162,14 +166,14 @@ image_own command name next = file_own command image_format name next (inl refl)
 
 started_own : (command : Command) (setup : Setup) (next : Plan Answer)
     → AreOwn (Some command) next
-    → AreOwn (Some command) (unless (start_refusal setup) (refused ImageRefused) next)
+    → AreOwn (Some command) (unless (start_refusal setup) (refusal_answer ImageRefused) next)
 started_own command setup next =
-    unless_own command (start_refusal setup) (refused ImageRefused) next
+    unless_own command (start_refusal setup) (refusal_answer ImageRefused) next
     (λ text. refused_own command ImageRefused text (inl refl))
 
-not_understood_own : AnswersOwn None (One (told NotUnderstood (codes "words not understood")))
+not_understood_own : AnswersOwn None (One (line_reply NotUnderstood (codes "words not understood")))
 not_understood_own reply is =
-    rw is (let own : IsOwn None (told NotUnderstood (codes "words not understood")) = record {
+    rw is (let own : IsOwn None (line_reply NotUnderstood (codes "words not understood")) = record {
       understood = (λ two. refl, λ none. refl);
       save = tt;
     } in own)
@@ -188,7 +192,7 @@ replay_own : (command : Command) (journal : Name) (bytes : List ℕ)
 replay_own command journal bytes loads =
     file_own command journal_format journal
     (λ j. started_replay (replay_setup bytes j) j.entries) (inr (inl refl)) loads
-    (λ j. unless_own command (replay_fault (replay_setup bytes j) j.entries) refused_break
+    (λ j. unless_own command (replay_fault (replay_setup bytes j) j.entries) break_answer
     (Tell (Replayed (replay_setup bytes j) j.entries))
     (λ fault. refused_own command (break_status fault) (break_text fault) (break_refuses fault))
     (replayed_own command (replay_setup bytes j) j.entries))
@@ -201,7 +205,7 @@ rewrite_refuses (NoRoom at) = inr (inr refl)
 rewrite_own : (image out : Name) (answer : Result Rewritten definitions.Fault)
     → AreOwn (Some (Rewrite image out)) (rewrite_plan out answer)
 rewrite_own image out (Ok r) =
-    one_own (Rewrite image out) (rewritten_reply out r) (omega arith) refl
+    one_own (Rewrite image out) (rewrite_reply out r) (omega arith) refl
 rewrite_own image out (Err fault) =
     refused_own (Rewrite image out) (rewrite_status fault) (rewrite_text fault)
     (rewrite_refuses fault)
@@ -210,7 +214,7 @@ pub plan_own : (words : Option Command) → AreOwn words (plan_for words)
 plan_own None = not_understood_own
 plan_own (Some (Inspect image)) =
     let command = Inspect image in
-    image_own command image _ refl (λ bytes. one_own command (listed_reply (image_list bytes))
+    image_own command image _ refl (λ bytes. one_own command (list_reply (image_list bytes))
     (list_not_2 (image_list bytes)) tt)
 plan_own (Some (Disasm image)) =
     let command = Disasm image in
@@ -262,7 +266,7 @@ tells_fault words old new status carries four =
 -- the end where nothing is refused
 abbrev IsWorkEnd : Command → Files → Answer → Type 0
 IsWorkEnd (Inspect image) files a = (bytes : List ℕ) × (files image ≡ Some bytes)
-    × (a ≡ One (listed_reply (image_list bytes)))
+    × (a ≡ One (list_reply (image_list bytes)))
 IsWorkEnd (Disasm image) files a = (bytes : List ℕ) × (files image ≡ Some bytes)
     × (a ≡ One (disasm_reply bytes))
 IsWorkEnd (Run image journal workers steps frames) files a =
@@ -272,30 +276,31 @@ IsWorkEnd (Run image journal workers steps frames) files a =
     × (a ≡ Ran report journal (run_setup bytes steps frames))
 IsWorkEnd (Replay image journal) files a =
     (bytes saved : List ℕ) × (files image ≡ Some bytes) × (files journal ≡ Some saved)
+    × (reading_refusal image_format bytes ≡ None)
     × (reading_refusal journal_format saved ≡ None)
     × (a ≡ Replayed (replay_setup bytes (journal_of saved)) (journal_of saved).entries)
 IsWorkEnd (Rewrite image out) files a =
     (bytes : List ℕ) × (files image ≡ Some bytes)
-    × ((r : Rewritten) × (rewriting bytes ≡ Ok r) × (a ≡ One (rewritten_reply out r)))
+    × ((r : Rewritten) × (rewriting bytes ≡ Ok r) × (a ≡ One (rewrite_reply out r)))
 IsWorkEnd (Gen seed out) files a = a ≡ One (gen_reply seed out)
 IsWorkEnd (Soak seed journal) files a =
     a ≡ Ran (λ entries s. soak_line seed s) journal (soak_setup seed)
 
--- a cause was told, or the command's work
+-- a cause was said, or the command's work
 abbrev IsEnd : Command → Files → Answer → Type 0
 IsEnd command files a =
     ((status : Status) × (text : List ℕ) × Refuses status
-    × (refusal command files ≡ Some (told status text)) × (a ≡ refused status text))
+    × (refusal command files ≡ Some (line_reply status text)) × (a ≡ refusal_answer status text))
     ⊎ ((refusal command files ≡ None) × IsWorkEnd command files a)
 
 plan_end : (command : Command) (files : Files) (a : Answer)
     → end_of (plan_of command) files ≡ Some a → IsEnd command files a
 unfolding end_of refusal
 plan_end (Inspect image) files a end =
-    by (file_end image_format image (λ bytes. Tell (One (listed_reply (image_list bytes)))) files a
+    by (file_end image_format image (λ bytes. Tell (One (list_reply (image_list bytes)))) files a
     end)
   where
-    by : IsRead image_format image (λ bytes. Tell (One (listed_reply (image_list bytes)))) files a
+    by : IsRead image_format image (λ bytes. Tell (One (list_reply (image_list bytes)))) files a
         → IsEnd (Inspect image) files a
     by (bytes, there, inl (text, bad, is)) =
         inl (ImageRefused, text, inl refl, rw (there, bad) refl, is)
@@ -318,7 +323,7 @@ plan_end (Run image journal workers steps frames) files a end =
 
     started : (bytes : List ℕ) → files image ≡ Some bytes
         → reading_refusal image_format bytes ≡ None
-        → Stops (start_refusal (run_setup bytes steps frames)) (refused ImageRefused)
+        → Stops (start_refusal (run_setup bytes steps frames)) (refusal_answer ImageRefused)
         (Tell (Ran report journal (run_setup bytes steps frames))) files a
         → IsEnd (Run image journal workers steps frames) files a
     started bytes there fine (inl (text, bad, is)) =
@@ -332,7 +337,8 @@ plan_end (Run image journal workers steps frames) files a end =
         inl (ImageRefused, text, inl refl, rw (there, bad) refl, is)
     by (bytes, there, inr (fine, ends)) =
         started bytes there fine
-        (unless_end (start_refusal (run_setup bytes steps frames)) (refused ImageRefused) _ files a
+        (unless_end (start_refusal (run_setup bytes steps frames))
+        (refusal_answer ImageRefused) _ files a
         ends)
 plan_end (Replay image journal) files a end =
     by (file_end image_format image next files a end)
@@ -343,14 +349,14 @@ plan_end (Replay image journal) files a end =
     next : List ℕ → Plan Answer
     next bytes = with_file journal_format journal (then_ bytes)
 
-    made : (bytes saved : List ℕ) → files image ≡ Some bytes
+    led : (bytes saved : List ℕ) → files image ≡ Some bytes
         → reading_refusal image_format bytes ≡ None → files journal ≡ Some saved
         → reading_refusal journal_format saved ≡ None
         → Stops (replay_fault (replay_setup bytes (journal_of saved)) (journal_of saved).entries)
-        refused_break
+        break_answer
         (Tell (Replayed (replay_setup bytes (journal_of saved)) (journal_of saved).entries)) files a
         → IsEnd (Replay image journal) files a
-    made bytes saved there fine here spelled (inl (fault, bad, is)) =
+    led bytes saved there fine here spelled (inl (fault, bad, is)) =
         inl (
           break_status fault,
           break_text fault,
@@ -358,7 +364,7 @@ plan_end (Replay image journal) files a end =
           rw (there, fine, here, spelled, bad) refl,
           is,
         )
-    made bytes saved there fine here spelled (inr (goes, ends)) =
+    led bytes saved there fine here spelled (inr (goes, ends)) =
         inr (
           rw (there, fine, here, spelled, goes) refl,
           (
@@ -366,6 +372,7 @@ plan_end (Replay image journal) files a end =
             saved,
             there,
             here,
+            fine,
             spelled,
             some_is _ _ ends,
           ),
@@ -378,9 +385,10 @@ plan_end (Replay image journal) files a end =
     loaded bytes there fine (saved, here, inl (text, bad, is)) =
         inl (JournalRefused, text, inr (inl refl), rw (there, fine, here, bad) refl, is)
     loaded bytes there fine (saved, here, inr (spelled, ends)) =
-        made bytes saved there fine here spelled
-        (unless_end (replay_fault (replay_setup bytes (journal_of saved)) (journal_of saved).entries)
-        refused_break _ files a ends)
+        led bytes saved there fine here spelled
+        (unless_end (replay_fault (replay_setup bytes (journal_of saved))
+        (journal_of saved).entries)
+        break_answer _ files a ends)
 
     by : IsRead image_format image next files a → IsEnd (Replay image journal) files a
     by (bytes, there, inl (text, bad, is)) =
@@ -416,10 +424,11 @@ plan_end (Soak seed journal) files a end = inr (refl, some_is _ _ end)
 
 -- ---- the commands' promises
 
--- how a command has ended over files that are told
+-- how a command has ended over files that are said
 record HasEnded (command : Command) (files : Files) (old new : World) (status : ℕ) : Type 0 where
   a : Answer
   end : IsEnd command files a
+  bytes : LoadsBytes (plan_of command) files
   replied : IsReplied IsAnswer a old new status
 
 ended : (words : Option Command) (command : Command) (files : Files) (old new : World) (status : ℕ)
@@ -427,9 +436,15 @@ ended : (words : Option Command) (command : Command) (files : Files) (old new : 
     → IsAbout words command old files → IsReplying status → HasEnded command files old new status
 ended words command files old new status carries about replying =
     let carried : Carries IsAnswer (plan_of command) old new status = rw about.meant at carries in
-    let told = tells_end IsAnswer (plan_of command) old new status carried files about.told
+    let at_end = tells_end IsAnswer (plan_of command) old new status carried files about.held
     replying in
-    record { a = told.0; end = plan_end command files told.0 told.1; replied = told.2 }
+    record {
+      a = at_end.0;
+      end = plan_end command files at_end.0 at_end.1;
+      bytes = loads_bytes IsAnswer (plan_of command) old new status files carried about.held
+          replying;
+      replied = at_end.2;
+    }
 
 -- the statuses of a command's work: 0, 1 and 7
 abbrev IsDone : ℕ → Type 0
@@ -464,8 +479,8 @@ work_done (Run image journal workers steps frames) files a old new status
     let ran : IsAnswer (Ran report journal (run_setup bytes steps frames)) replied.reply =
     rw is at replied.answer in
     done_by _ replied.reply status replied.code ran.answer (end_done ran.last.end)
-work_done (Replay image journal) files a old new status (bytes, saved, there, here, spelled, is)
-    replied =
+work_done (Replay image journal) files a old new status
+    (bytes, saved, there, here, fine, spelled, is) replied =
     let ran : IsAnswer (Replayed (replay_setup bytes (journal_of saved)) (journal_of saved).entries)
     replied.reply = rw is at replied.answer in
     done_by _ replied.reply status replied.code ran.answer (end_done ran.last.end)
@@ -532,14 +547,15 @@ refused_status why command files a old new status refuses (inr (none, work)) rep
 )
 refused_status why command files a old new status refuses (inl (st, text, other, cause, is)) replied
     =
-    let r : replied.reply ≡ told st text = one_reply a _ replied.reply is replied.answer in
+    let r : replied.reply ≡ line_reply st text = one_reply a _ replied.reply is replied.answer in
     let code : status ≡ code_of st = replied.code ∙ ap (λ (x : Reply). code_of x.status) r in (
       λ same. (
         text,
-        cause ∙ ap (λ (s : Status). Some (told s text))
+        cause ∙ ap (λ (s : Status). Some (line_reply s text))
             (one_status st why other refuses (sym code ∙ same)),
       ),
-      λ (said, some). (let same : told st text ≡ told why said = (let e = sym cause ∙ some in cc) in
+      λ (said, some). (let same : line_reply st text ≡ line_reply why said = (let e = sym cause
+          ∙ some in cc) in
           code ∙ ap (λ (x : Reply). code_of x.status) same),
     )
 
@@ -561,17 +577,25 @@ spent_status (Some (Fault thread rip cause addr)) status code =
 spent_status (Some (Refused page found thread)) status code =
     (λ seven. absurd (omega (arith, code, seven)), λ none. absurd cc)
 
+-- what the laws of other crates say, on which the promises rest
+pub record Laws : Type 0 where
+  pub rewriting : AnswerLaw
+  pub replaying : UnbrokenLaw
+  pub generated_length : LengthLaw
+  pub generated_accepted : AcceptedLaw
+  pub generated_startable : StartableLaw
+
 -- a run that was answered
-shown_run : (told_of : List Entry → State → List ℕ) (journal : Name)
+shown_run : Laws → (text_of : List Entry → State → List ℕ) (journal : Name)
     (bytes : List ℕ) (steps frames : ℕ) (a : Answer) (old new : World) (status : ℕ)
     → reading_refusal image_format bytes ≡ None
     → start_refusal (run_setup bytes steps frames) ≡ None
-    → a ≡ Ran told_of journal (run_setup bytes steps frames) → IsReplied IsAnswer a old new status
-    → ShowsRun told_of journal (run_setup bytes steps frames) old new status
-shown_run told_of journal bytes steps frames a old new status fine can is replied =
+    → a ≡ Ran text_of journal (run_setup bytes steps frames) → IsReplied IsAnswer a old new status
+    → ShowsRun text_of journal (run_setup bytes steps frames) old new status
+shown_run laws text_of journal bytes steps frames a old new status fine can is replied =
     let setup = run_setup bytes steps frames in
-    let ran : IsAnswer (Ran told_of journal setup) replied.reply = rw is at replied.answer in
-    let whole : IsAnswered (ran_reply told_of journal setup ran.entries ran.last) old new =
+    let ran : IsAnswer (Ran text_of journal setup) replied.reply = rw is at replied.answer in
+    let whole : IsAnswered (run_reply text_of journal setup ran.entries ran.last) old new =
     rw ran.answer at replied.whole in
     let code : status ≡ code_of (end_status ran.last.end) =
     replied.code ∙ ap (λ (x : Reply). code_of x.status) ran.answer in
@@ -583,15 +607,16 @@ shown_run told_of journal bytes steps frames a old new status fine can is replie
       text = whole.text;
       answer = code;
       spent = spent_status ran.last.end status code;
-      again = replays_run bytes steps frames ran.entries ran.last fine can ran.own;
+      again = replays_run laws.replaying bytes steps frames ran.entries ran.last fine can ran.own;
     }
 
 -- a reply that was delivered whole shows what the command found
 shown : (command : Command) (files : Files) (a : Answer) (old new : World) (status : ℕ)
-    → AnswerLaw → IsWorkEnd command files a → IsReplied IsAnswer a old new status
+    → Laws → LoadsBytes (plan_of command) files → IsWorkEnd command files a
+    → IsReplied IsAnswer a old new status
     → Shows command files old new status
-shown (Inspect image) files a old new status law (bytes, there, is) replied =
-    let r = one_reply a (listed_reply (image_list bytes)) replied.reply is replied.answer in (
+shown (Inspect image) files a old new status laws loads (bytes, there, is) replied =
+    let r = one_reply a (list_reply (image_list bytes)) replied.reply is replied.answer in (
       bytes,
       there,
       record {
@@ -599,7 +624,7 @@ shown (Inspect image) files a old new status law (bytes, there, is) replied =
         text = rw r at replied.whole.text;
       },
     )
-shown (Disasm image) files a old new status law (bytes, there, is) replied =
+shown (Disasm image) files a old new status laws loads (bytes, there, is) replied =
     let r = one_reply a (disasm_reply bytes) replied.reply is replied.answer in (
       bytes,
       there,
@@ -608,18 +633,23 @@ shown (Disasm image) files a old new status law (bytes, there, is) replied =
         text = rw r at replied.whole.text;
       },
     )
-shown (Run image journal workers steps frames) files a old new status law
+shown (Run image journal workers steps frames) files a old new status laws loads
     (bytes, there, fine, can, is) replied = (
       bytes,
       there,
-      shown_run report journal bytes steps frames a old new status fine can is replied,
+      shown_run laws report journal bytes steps frames a old new status fine can is replied,
     )
-shown (Replay image journal) files a old new status law
-    (bytes, saved, there, here, spelled, is) replied =
+shown (Replay image journal) files a old new status laws loads
+    (bytes, saved, there, here, fine, spelled, is) replied =
     let j = journal_of saved in
+    let last : JournalValue → Plan Answer = λ k. started_replay (replay_setup bytes k) k.entries in
+    let next : List ℕ → Plan Answer = λ b. with_file journal_format journal
+    (λ k. started_replay (replay_setup b k) k.entries) in
+    let rest = file_bytes image_format image next files bytes loads there fine in
+    let octets = file_bytes journal_format journal last files saved rest.1 here spelled in
     let ran : IsAnswer (Replayed (replay_setup bytes j) j.entries) replied.reply =
     rw is at replied.answer in
-    let whole : IsAnswered (replayed_reply j.entries ran.last) old new =
+    let whole : IsAnswered (replay_reply j.entries ran.last) old new =
     rw ran.answer at replied.whole in
     let code : status ≡ code_of (end_status ran.last.end) =
     replied.code ∙ ap (λ (x : Reply). code_of x.status) ran.answer in
@@ -629,13 +659,13 @@ shown (Replay image journal) files a old new status law
       text = whole.text;
       answer = code;
       spent = spent_status ran.last.end status code;
-      spelling = saved_spelling saved spelled;
+      spelling = saved_spelling saved spelled octets.0;
     } in
     (bytes, saved, there, here, shows)
-shown (Rewrite image out) files a old new status law (bytes, there, (r, made, is)) replied =
-    let same = one_reply a (rewritten_reply out r) replied.reply is replied.answer in
-    let whole : IsAnswered (rewritten_reply out r) old new = rw same at replied.whole in
-    let clean = law bytes r made in
+shown (Rewrite image out) files a old new status laws loads (bytes, there, (r, made, is)) replied =
+    let same = one_reply a (rewrite_reply out r) replied.reply is replied.answer in
+    let whole : IsAnswered (rewrite_reply out r) old new = rw same at replied.whole in
+    let clean = laws.rewriting bytes r made in
     let shows : ShowsRewritten bytes out old new status = record {
       is = r;
       made = made;
@@ -646,7 +676,7 @@ shown (Rewrite image out) files a old new status law (bytes, there, (r, made, is
       text = whole.text;
     } in
     (bytes, there, shows)
-shown (Gen seed out) files a old new status law is replied =
+shown (Gen seed out) files a old new status laws loads is replied =
     let r = one_reply a (gen_reply seed out) replied.reply is replied.answer in
     let whole : IsAnswered (gen_reply seed out) old new = rw r at replied.whole in
     record {
@@ -654,24 +684,25 @@ shown (Gen seed out) files a old new status law is replied =
       saved = whole.store.held;
       text = whole.text;
     }
-shown (Soak seed journal) files a old new status law is replied =
-    shown_run (λ entries s. soak_line seed s) journal _ 1000000 1024 a old new status
-    (seed_accepted seed) (seed_starts seed) is replied
+shown (Soak seed journal) files a old new status laws loads is replied =
+    shown_run laws (λ entries s. soak_line seed s) journal _ USUAL_STEPS USUAL_FRAMES a old new
+    status (seed_accepted seed laws.generated_length laws.generated_accepted)
+    (seed_starts seed laws.generated_startable) is replied
 
-pub tells_work : (words : Option Command) (old new : World) (status : ℕ) → AnswerLaw
+pub tells_work : (words : Option Command) (old new : World) (status : ℕ) → Laws
     → Carries IsAnswer (plan_for words) old new status → TellsWork words old new status
-tells_work words old new status law carries command files about taken replying =
+tells_work words old new status laws carries command files about taken replying =
     let e = ended words command files old new status carries about replying in
     by e e.end
   where
     by : (e : HasEnded command files old new status) → IsEnd command files e.a
         → Shows command files old new status
     by e (inl (st, text, refuses, cause, is)) = absurd (let bad = sym taken ∙ cause in cc)
-    by e (inr (none, work)) = shown command files e.a old new status law work e.replied
+    by e (inr (none, work)) = shown command files e.a old new status laws e.bytes work e.replied
 
-pub tells_complete : (words : Option Command) (old new : World) (status : ℕ) → AnswerLaw
+pub tells_complete : (words : Option Command) (old new : World) (status : ℕ) → Laws
     → Carries IsAnswer (plan_for words) old new status → IsComplete words old new status
-tells_complete words old new status law carries command files about clean =
+tells_complete words old new status laws carries command files about clean =
     elim (cases_Bool (eqb status 5)) [
       | inl five ↦ inl (eqb-true _ _ five)
       | inr other ↦ elim (cases_Bool (eqb status 4)) [
@@ -684,13 +715,13 @@ tells_complete words old new status law carries command files about clean =
     by : (e : HasEnded command files old new status) → IsEnd command files e.a
         → Does (refusal command files) command files old new status
     by e (inl (st, text, refuses, cause, is)) =
-        (let r = one_reply e.a (told st text) e.replied.reply is e.replied.answer in
-        let does : Does (Some (told st text)) command files old new status =
+        (let r = one_reply e.a (line_reply st text) e.replied.reply is e.replied.answer in
+        let does : Does (Some (line_reply st text)) command files old new status =
         (e.replied.code ∙ ap (λ (x : Reply). code_of x.status) r, rw r at e.replied.whole) in
         rw cause does)
     by e (inr (none, work)) =
         (let does : Does None command files old new status =
-        shown command files e.a old new status law work e.replied in
+        shown command files e.a old new status laws e.bytes work e.replied in
         rw none does)
 
     done : IsReplying status → Does (refusal command files) command files old new status

@@ -7,17 +7,17 @@ use Rattle.erim_defs.specs.Output.Journal.{journal_text}
 use Rattle.erim_commands.specs.declared.reply.Status.{Status}
 use Rattle.erim_commands.specs.Replies.{IsRunReply, IsOwnRun, end_status, run_journal}
 
--- a reply made of a text, the journal and the status of a run
-pub run_replied : (told_of : List Entry → State → List ℕ) (setup : Setup) (journal : Name)
+-- a reply of a text, the journal and the status of a run
+pub run_replied : (text_of : List Entry → State → List ℕ) (setup : Setup) (journal : Name)
     (entries : List Entry) (last : State) (status : Status) (text bytes : List ℕ)
-    → IsOwnRun setup entries last → status ≡ end_status last.end → text ≡ told_of entries last
+    → IsOwnRun setup entries last → status ≡ end_status last.end → text ≡ text_of entries last
     → bytes ≡ journal_text (run_journal setup entries)
-    → IsRunReply told_of journal setup (record {
+    → IsRunReply text_of journal setup (record {
       status = status;
       text = text;
       save = Some (record { name = journal; bytes = bytes });
     })
-run_replied told_of setup journal entries last status text bytes own status_is text_is bytes_is =
+run_replied text_of setup journal entries last status text bytes own status_is text_is bytes_is =
     record {
       entries = entries;
       last = last;

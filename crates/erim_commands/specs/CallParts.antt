@@ -7,12 +7,13 @@ use Rattle.erim_io.specs.Sink.{HasRisen, AppendsPart}
 use Rattle.erim_io.specs.declared.store.SaveFault.{SaveFault}
 use Rattle.erim_defs.specs.declared.fault.ImageFault.TheVariants as faults
 use Rattle.erim_defs.specs.declared.memory.NoMemory.{NoMemory}
+use Rattle.erim_defs.specs.Encoding.Parts.{AreBytes}
 use Rattle.erim_defs.specs.Rewriting.Rewriting.{Fault, NotImage}
 use Rattle.erim_defs.specs.Rewriting.Rewriting as definitions
 use Rattle.overlap_rewrite.specs.declared.rewriting.RewriteFault.{RewriteFault}
 use Rattle.overlap_rewrite.specs.declared.rewriting.RewriteFault.TheVariants.{Image, Cannot}
 use Rattle.overlap_rewrite.specs.declared.rewriting.RewriteFault.TheVariants.{NoRoom, Memory}
-use Rattle.erim_commands.specs.declared.reply.Reply.{Reply as Made}
+use Rattle.erim_commands.specs.declared.reply.Reply.{Reply as CodeReply}
 use Rattle.erim_commands.specs.declared.reply.Save.{Save as File}
 use Rattle.erim_commands.specs.Replies.{Saved, Reply, Answer, IsAnswer}
 use Rattle.erim_commands.specs.Plans.{Plan, Ask, Tell}
@@ -25,12 +26,12 @@ abbrev pub save_of : Option File → Option Saved
 save_of None = None
 save_of (Some file) = Some (record { name = file.name.now; bytes = file.bytes.items })
 
-abbrev pub reply_of : Made → Reply
+abbrev pub reply_of : CodeReply → Reply
 reply_of r = record { status = r.status; text = r.text.items; save = save_of r.save }
 
 -- ---- a cause of the code
 
--- for which an image isn't rewritten; want of memory is never told
+-- for which an image isn't rewritten; out of memory is never said
 abbrev pub fault_of : RewriteFault → Fault
 fault_of (Image fault) = NotImage fault
 fault_of (Cannot at why) = definitions.Cannot at why
@@ -61,6 +62,7 @@ noted_file (Some file) result names = noted_save result file.name names
 abbrev pub Loads : {Z : Type 0} → Name → ℕ → Reply → World → World → Result (Vec ℕ Z) ℕ → Type 0
 Loads name limit too_large old new (Ok bytes) =
     (new ≡ old) × Holds old.held name (Some bytes.items) × (length bytes.items ≤ limit)
+    × AreBytes bytes.items
 Loads name limit too_large old new (Err status) =
     (HoldsMore name limit old.held × Delivers too_large old new status)
     ⊎ (((status ≡ 4) × HasNotLoaded name old new)
@@ -73,13 +75,13 @@ abbrev pub EndsAs : Plan Answer → Reply → Type 0
 EndsAs (Tell a) reply = IsAnswer a reply
 EndsAs (Ask name limit too_large next) reply = ⊥
 
--- a reply that was made, or want of memory
-abbrev pub IsMadeFor : Plan Answer → Result Made NoMemory → Type 0
-IsMadeFor plan (Ok made) = EndsAs plan (reply_of made)
-IsMadeFor plan (Err none) = ⊤
+-- a reply with which the plan may end, or out of memory
+abbrev pub IsReplyFor : Plan Answer → Result CodeReply NoMemory → Type 0
+IsReplyFor plan (Ok reply) = EndsAs plan (reply_of reply)
+IsReplyFor plan (Err none) = ⊤
 
--- a step that loads and reads a file: it gave what was read and changed nothing, and what then carries
--- out the rest carries out the whole; or it carried out the whole, whatever was to follow
+-- a step that loads and reads a file: it gave what was read and changed nothing, and what then
+-- carries out the rest carries out the whole; or it carried out the whole, whatever was to follow
 abbrev pub Passes : {X : Type 0} → ((X → Plan Answer) → Plan Answer) → World → World → Result X ℕ
     → Type 0
 Passes {X = X} step old new (Ok x) =

@@ -1,31 +1,33 @@
 -- The plan of each command: what it loads, in the order of its loads, and what it answers. Own.
 use Rattle.std.specs.Prelude.{ℕ, Option, Some, None, List, Result, Ok, Err, codes}
 use Rattle.erim_io.specs.Store.{Name}
+use Rattle.erim_defs.specs.declared.limits.TheConstants.{MOST_IMAGE_BYTES, MOST_JOURNAL_BYTES}
+use Rattle.erim_defs.specs.declared.limits.TheConstants.{USUAL_FRAMES, USUAL_STEPS}
 use Rattle.erim_defs.specs.declared.machine.Entry.{Entry}
 use Rattle.erim_defs.specs.Inspection.Unsafe.{image_list}
 use Rattle.erim_defs.specs.Machine.State.{Setup, State}
 use Rattle.erim_defs.specs.Output.Journal.{JournalValue, journal_of}
-use Rattle.erim_defs.specs.Output.MadeImage.{seed_image}
-use Rattle.erim_defs.specs.Output.MadeTexts.{soak_line}
+use Rattle.erim_defs.specs.Output.GeneratedImage.{seed_image}
+use Rattle.erim_defs.specs.Output.GeneratedTexts.{soak_line}
 use Rattle.erim_defs.specs.Output.Report.{report}
 use Rattle.erim_defs.specs.Output.RewriteTexts.{rewrite_text}
 use Rattle.erim_defs.specs.Output.Words.{Command, Inspect, Disasm, Run, Replay, Rewrite, Gen, Soak}
 use Rattle.erim_defs.specs.Rewriting.Rewriting.{Fault, Rewritten, rewriting}
-use Rattle.thread_runner.specs.declared.replays.ReplayFault.{ReplayFault}
-use Rattle.thread_runner.specs.Replays.{replay_fault}
+use Rattle.erim_defs.specs.declared.replay_fault.ReplayFault.{ReplayFault}
+use Rattle.erim_defs.specs.Machine.ReplayFaults.{replay_fault}
 use Rattle.erim_commands.specs.declared.reply.Status.{Status}
 use Rattle.erim_commands.specs.declared.reply.Status.TheVariants.{NotUnderstood, ImageRefused}
 use Rattle.erim_commands.specs.declared.reply.Status.TheVariants.{JournalRefused}
 use Rattle.erim_commands.specs.Plans.{Plan, Ask, Tell, unless}
-use Rattle.erim_commands.specs.Replies.{Answer, One, Ran, Replayed, told, image_fault}
+use Rattle.erim_commands.specs.Replies.{Answer, One, Ran, Replayed, line_reply, image_fault}
 use Rattle.erim_commands.specs.Replies.{start_refusal, journal_refusal, break_status, break_text}
-use Rattle.erim_commands.specs.Replies.{listed_reply, disasm_reply, rewrite_status}
-use Rattle.erim_commands.specs.Replies.{rewritten_reply, gen_reply}
+use Rattle.erim_commands.specs.Replies.{list_reply, disasm_reply, rewrite_status}
+use Rattle.erim_commands.specs.Replies.{rewrite_reply, gen_reply}
 
 -- ---- files that commands load
 
--- a form of files: the most bytes that one has, the status and the text where it has more, its first
--- fault, and what it says where it has none
+-- a form of files: the most bytes that one has, the status and the text where it has more, its
+-- first fault, and what it says where it has none
 pub record Format (X : Type 0) : Type 0 where
   pub limit : ℕ
   pub status : Status
@@ -36,7 +38,7 @@ pub record Format (X : Type 0) : Type 0 where
 -- images have at most 8 MiB
 abbrev pub image_format : Format (List ℕ)
 image_format = record {
-  limit = 8388608;
+  limit = MOST_IMAGE_BYTES;
   status = ImageRefused;
   too_large = codes "image too large";
   fault = image_fault;
@@ -46,7 +48,7 @@ image_format = record {
 -- journals have at most the bytes of one of the most entries
 abbrev pub journal_format : Format JournalValue
 journal_format = record {
-  limit = 33554452;
+  limit = MOST_JOURNAL_BYTES;
   status = JournalRefused;
   too_large = codes "journal too large";
   fault = journal_refusal;
@@ -55,35 +57,36 @@ journal_format = record {
 
 -- ---- steps of plans
 
-abbrev pub refused : Status → List ℕ → Answer
-refused status text = One (told status text)
+abbrev pub refusal_answer : Status → List ℕ → Answer
+refusal_answer status text = One (line_reply status text)
 
 -- loads a file and reads it
 abbrev pub with_file : {X : Type 0} → Format X → Name → (X → Plan Answer) → Plan Answer
 with_file format name next =
-    Ask name format.limit (refused format.status format.too_large)
-    (λ bytes. unless (format.fault bytes) (refused format.status) (next (format.value bytes)))
+    Ask name format.limit (refusal_answer format.status format.too_large)
+    (λ bytes. unless (format.fault bytes) (refusal_answer format.status) (next
+    (format.value bytes)))
 
 -- starts the image of a setup
 abbrev pub with_start : Setup → Plan Answer → Plan Answer
-with_start setup next = unless (start_refusal setup) (refused ImageRefused) next
+with_start setup next = unless (start_refusal setup) (refusal_answer ImageRefused) next
 
 -- starts it and runs it
 abbrev pub started_run : (List Entry → State → List ℕ) → Name → Setup → Plan Answer
-started_run told_of journal setup = with_start setup (Tell (Ran told_of journal setup))
+started_run text_of journal setup = with_start setup (Tell (Ran text_of journal setup))
 
-abbrev pub refused_break : ReplayFault → Answer
-refused_break fault = refused (break_status fault) (break_text fault)
+abbrev pub break_answer : ReplayFault → Answer
+break_answer fault = refusal_answer (break_status fault) (break_text fault)
 
 -- starts it and makes the steps of entries
 abbrev pub started_replay : Setup → List Entry → Plan Answer
 started_replay setup entries =
-    unless (replay_fault setup entries) refused_break (Tell (Replayed setup entries))
+    unless (replay_fault setup entries) break_answer (Tell (Replayed setup entries))
 
 -- saves a rewritten image
 abbrev pub rewrite_plan : Name → Result Rewritten Fault → Plan Answer
-rewrite_plan out (Ok r) = Tell (One (rewritten_reply out r))
-rewrite_plan out (Err fault) = Tell (refused (rewrite_status fault) (rewrite_text fault))
+rewrite_plan out (Ok r) = Tell (One (rewrite_reply out r))
+rewrite_plan out (Err fault) = Tell (refusal_answer (rewrite_status fault) (rewrite_text fault))
 
 -- ---- commands
 
@@ -94,14 +97,14 @@ run_setup bytes steps frames = record { image = bytes; budget = steps; frames = 
 abbrev pub replay_setup : List ℕ → JournalValue → Setup
 replay_setup bytes j = run_setup bytes j.budget j.frames
 
--- a made image starts, with 1,000,000 steps and 1,024 frames
+-- a generated image is run with 1,000,000 steps and 1,024 frames
 abbrev pub soak_setup : ℕ → Setup
-soak_setup seed = run_setup (seed_image seed) 1000000 1024
+soak_setup seed = run_setup (seed_image seed) USUAL_STEPS USUAL_FRAMES
 
 -- the workers have no effect: each run is made by one, of number 0
 abbrev pub plan_of : Command → Plan Answer
 plan_of (Inspect image) =
-    with_file image_format image (λ bytes. Tell (One (listed_reply (image_list bytes))))
+    with_file image_format image (λ bytes. Tell (One (list_reply (image_list bytes))))
 plan_of (Disasm image) =
     with_file image_format image (λ bytes. Tell (One (disasm_reply bytes)))
 plan_of (Run image journal workers steps frames) =
@@ -117,7 +120,7 @@ plan_of (Gen seed out) = Tell (One (gen_reply seed out))
 plan_of (Soak seed journal) = Tell (Ran (λ entries s. soak_line seed s) journal (soak_setup seed))
 
 abbrev pub not_understood : Answer
-not_understood = One (told NotUnderstood (codes "words not understood"))
+not_understood = One (line_reply NotUnderstood (codes "words not understood"))
 
 -- the plan of what the words mean
 abbrev pub plan_for : Option Command → Plan Answer

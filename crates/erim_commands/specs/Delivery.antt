@@ -6,12 +6,13 @@ use Rattle.erim_io.specs.Store.{Name, Files, Holds, holding, KeepsOthers}
 use Rattle.erim_io.specs.Sink.{HasRisen, AppendsPart}
 use Rattle.erim_io.specs.declared.store.Store.{Ghosts as StoreMeanings}
 use Rattle.erim_io.specs.declared.sink.Sink.{Ghosts as SinkMeanings}
+use Rattle.erim_defs.specs.Encoding.Parts.{AreBytes}
 use Rattle.erim_defs.specs.Output.Texts.{error_line}
 use Rattle.erim_commands.specs.Statuses.{code_of}
 use Rattle.erim_commands.specs.Replies.{Saved, Reply}
 use Rattle.erim_commands.specs.Plans.{Plan, Ask, Tell}
 
--- what store and sink tell at a moment
+-- what store and sink say at a moment
 pub record World : Type 0 where
   pub held : Option Files
   pub failed_loads : List Name
@@ -106,6 +107,9 @@ abbrev pub Answers : {A : Type 0} → (A → Reply → Type 0) → A → World �
 Answers IsAnswer a old new status =
     (reply : Reply) × IsAnswer a reply × Delivers reply old new status
 
+-- a plan was carried out. A store that says nothing of its files holds any bytes under each name
+-- (`Holds None` is ⊤): over it that a file was loaded means only that there are some bytes, within
+-- the limit, by which the plan went on, and that one was too large only that some are larger
 abbrev pub Carries : {A : Type 0} → (A → Reply → Type 0) → Plan A → World → World → ℕ → Type 0
 Carries IsAnswer (Tell a) old new status =
     -- its end was answered
@@ -117,6 +121,7 @@ Carries IsAnswer (Ask name limit too_large next) old new status =
     ((bytes : List ℕ)
     × Holds old.held name (Some bytes)
     × (length bytes ≤ limit)
+    × AreBytes bytes
     × Carries IsAnswer (next bytes) old new status)
     -- it was too large
     ⊎ ((HoldsMore name limit old.held × Answers IsAnswer too_large old new status)

@@ -1,4 +1,4 @@
--- What the end of a call tells, status by status: of each plan, and of each command.
+-- What the end of a call says, status by status: of each plan, and of each command.
 use Rattle.std.specs.Prelude.{◌≡◌, ◌≢◌, ◌⊎◌, ◌↔◌, nat_lt, ℕ, Option, Some, None, List, []}
 use Rattle.std.specs.Prelude.{◌∷◌, ◌++◌, length, Result, Ok, Err, if◌then◌else◌}
 use Rattle.std.specs.Option.{option_map}
@@ -7,26 +7,25 @@ use Rattle.erim_io.specs.Store.{Name, Files, holding}
 use Rattle.erim_io.specs.Sink.{HasRisen}
 use Rattle.erim_defs.specs.declared.machine.Entry.{Entry}
 use Rattle.erim_defs.specs.Encoding.Disasm.{disasm_text}
-use Rattle.erim_defs.specs.Encoding.Parts.{AreBytes}
 use Rattle.erim_defs.specs.Inspection.Code.{or_else}
 use Rattle.erim_defs.specs.Inspection.Image.{IsAccepted}
 use Rattle.erim_defs.specs.Inspection.Unsafe.{image_list}
 use Rattle.erim_defs.specs.Machine.State.{Setup, State}
 use Rattle.erim_defs.specs.Output.Journal.{IsJournal, journal_of, journal_text}
-use Rattle.erim_defs.specs.Output.MadeImage.{seed_image}
-use Rattle.erim_defs.specs.Output.MadeTexts.{gen_line, soak_line}
+use Rattle.erim_defs.specs.Output.GeneratedImage.{seed_image}
+use Rattle.erim_defs.specs.Output.GeneratedTexts.{gen_line, soak_line}
 use Rattle.erim_defs.specs.Output.Report.{report}
 use Rattle.erim_defs.specs.Output.Texts.{inspect_text}
 use Rattle.erim_defs.specs.Output.RewriteTexts.{rewrite_text, rewrote_line}
 use Rattle.erim_defs.specs.Output.Words.{Command, Inspect, Disasm, Run, Replay, Rewrite, Gen, Soak}
 use Rattle.erim_defs.specs.Rewriting.Rewriting.{Fault, Rewritten, rewriting}
-use Rattle.thread_runner.specs.Replays.{replay_fault}
+use Rattle.erim_defs.specs.Machine.ReplayFaults.{replay_fault}
 use Rattle.erim_commands.specs.declared.reply.Status.{Status}
 use Rattle.erim_commands.specs.declared.reply.Status.TheVariants.{ImageRefused, JournalRefused}
 use Rattle.erim_commands.specs.Statuses.{code_of}
-use Rattle.erim_commands.specs.Replies.{Answer, IsAnswer, Reply, told, start_refusal}
+use Rattle.erim_commands.specs.Replies.{Answer, IsAnswer, Reply, line_reply, start_refusal}
 use Rattle.erim_commands.specs.Replies.{break_status, break_text, list_status, end_status}
-use Rattle.erim_commands.specs.Replies.{run_journal, IsWholeRun, IsOwnRun, replayed_reply}
+use Rattle.erim_commands.specs.Replies.{run_journal, IsWholeRun, IsOwnRun, replay_reply}
 use Rattle.erim_commands.specs.Replies.{rewrite_status}
 use Rattle.erim_commands.specs.Plans.{Plan, end_of}
 use Rattle.erim_commands.specs.Commands.{Format, image_format, journal_format, plan_of, run_setup}
@@ -35,7 +34,7 @@ use Rattle.erim_commands.specs.Delivery.{World, IsAnswered, IsUntouched}
 
 -- ---- of each plan
 
--- neither a fault nor want of memory ended the call
+-- neither a fault nor out of memory ended the call
 abbrev pub IsReplying : ℕ → Type 0
 IsReplying status = (status ≢ 4) × (status ≢ 5)
 
@@ -47,7 +46,7 @@ pub record IsReplied {A : Type 0} (IsAnswer : A → Reply → Type 0) (a : A) (o
   pub code : status ≡ code_of reply.status
   pub whole : IsAnswered reply old new
 
--- over files that the store tells, a status but 4 and 5 is that of the plan's end
+-- over files that the store says, a status but 4 and 5 is that of the plan's end
 abbrev pub TellsEnd : {A : Type 0} → (A → Reply → Type 0) → Plan A → World → World → ℕ → Type 0
 TellsEnd {A = A} IsAnswer plan old new status =
     (files : Files) → old.held ≡ Some files → IsReplying status
@@ -86,55 +85,58 @@ reading_refusal format bytes =
     if nat_lt format.limit (length bytes) then Some format.too_large else format.fault bytes
 
 -- the reply that says why, where there is a cause
-abbrev pub refused_as : Status → Option (List ℕ) → Option Reply
-refused_as status cause = option_map (told status) cause
+abbrev pub refusal_as : Status → Option (List ℕ) → Option Reply
+refusal_as status cause = option_map (line_reply status) cause
 
 -- the reply that says what breaks a replay
 abbrev pub replay_refusal : Setup → List Entry → Option Reply
 replay_refusal setup entries =
-    option_map (λ fault. told (break_status fault) (break_text fault)) (replay_fault setup entries)
+    option_map (λ fault. line_reply (break_status fault) (break_text fault))
+    (replay_fault setup entries)
 
 -- reads a journal, and then replays it
 abbrev pub saved_refusal : List ℕ → List ℕ → Option Reply
 saved_refusal bytes saved =
-    or_else (refused_as JournalRefused (reading_refusal journal_format saved))
+    or_else (refusal_as JournalRefused (reading_refusal journal_format saved))
     (replay_refusal (replay_setup bytes (journal_of saved)) (journal_of saved).entries)
 
 -- the reply that says why there is no rewritten image, where there is none
 abbrev pub rewriting_refusal : Result Rewritten Fault → Option Reply
 rewriting_refusal (Ok r) = None
-rewriting_refusal (Err fault) = Some (told (rewrite_status fault) (rewrite_text fault))
+rewriting_refusal (Err fault) = Some (line_reply (rewrite_status fault) (rewrite_text fault))
 
--- why a command does nothing, over files that the store tells: the first cause in its order
+-- why a command does nothing, over files that the store says: the first cause in its order. The
+-- order of the causes stands in `plan_of` too, and the lemma `tells_refusal` ties both: a plan that
+-- was carried out with an answer but 4 and 5 answered with the status of this cause.
 unfoldable pub refusal : Command → Files → Option Reply
 refusal (Inspect image) files =
-    of_file (files image) (λ bytes. refused_as ImageRefused (reading_refusal image_format bytes))
+    of_file (files image) (λ bytes. refusal_as ImageRefused (reading_refusal image_format bytes))
 refusal (Disasm image) files =
-    of_file (files image) (λ bytes. refused_as ImageRefused (reading_refusal image_format bytes))
+    of_file (files image) (λ bytes. refusal_as ImageRefused (reading_refusal image_format bytes))
 refusal (Run image journal workers steps frames) files =
     of_file (files image)
-    (λ bytes. refused_as ImageRefused
+    (λ bytes. refusal_as ImageRefused
     (or_else (reading_refusal image_format bytes) (start_refusal (run_setup bytes steps frames))))
 refusal (Replay image journal) files =
     of_file (files image)
-    (λ bytes. or_else (refused_as ImageRefused (reading_refusal image_format bytes))
+    (λ bytes. or_else (refusal_as ImageRefused (reading_refusal image_format bytes))
     (of_file (files journal) (saved_refusal bytes)))
 refusal (Rewrite image out) files =
     of_file (files image)
-    (λ bytes. or_else (refused_as ImageRefused (reading_refusal image_format bytes))
+    (λ bytes. or_else (refusal_as ImageRefused (reading_refusal image_format bytes))
     (rewriting_refusal (rewriting bytes)))
 refusal (Gen seed out) files = None
 refusal (Soak seed journal) files = None
 
--- the words mean this command, and the store tells these files
+-- the words mean this command, and the store says these files
 pub record IsAbout (words : Option Command) (command : Command) (old : World) (files : Files)
     : Type 0 where
   pub meant : words ≡ Some command
-  pub told : old.held ≡ Some files
+  pub held : old.held ≡ Some files
 
 -- there is a cause, of this status
 abbrev pub IsRefusedAs : Status → Option Reply → Type 0
-IsRefusedAs status refusal = (text : List ℕ) × (refusal ≡ Some (told status text))
+IsRefusedAs status refusal = (text : List ℕ) × (refusal ≡ Some (line_reply status text))
 
 -- 3 exactly where the image is refused, 6 exactly where the journal is, and 8 exactly where an
 -- accepted image can't be rewritten
@@ -165,29 +167,28 @@ ReplaysTo bytes saved reply =
 -- the journal of a run from the setup was saved under its name, and nothing else; a text of the run
 -- was added to what was written; the status is that of its end, and 7 where it has none. To replay
 -- what was saved prints the report of this run, with this status.
-pub record ShowsRun (told_of : List Entry → State → List ℕ) (journal : Name) (setup : Setup)
+pub record ShowsRun (text_of : List Entry → State → List ℕ) (journal : Name) (setup : Setup)
     (old new : World) (status : ℕ) : Type 0 where
   pub entries : List Entry
   pub last : State
   pub own : IsOwnRun setup entries last
   pub saved : new.held ≡ holding journal (journal_text (run_journal setup entries)) old.held
-  pub text : Appends old.written new.written (told_of entries last)
+  pub text : Appends old.written new.written (text_of entries last)
   pub answer : status ≡ code_of (end_status last.end)
   pub spent : (status ≡ 7) ↔ (last.end ≡ None)
   pub again : ReplaysTo setup.image (journal_text (run_journal setup entries))
-      (replayed_reply entries last)
+      (replay_reply entries last)
 
--- the entries of the journal that was loaded lead from its setup to an end or to where the budget is
--- spent; the report was added to what was written; the status is that of the end, and 7 where there
--- is none. The bytes that were loaded, if bytes they are, are those of that journal.
+-- the entries of the journal that was loaded lead from its setup to an end or to where the budget
+-- is spent; the report was added to what was written; the status is that of the end, and 7 where
+-- there is none. What was loaded is the text of that journal.
 pub record ShowsReplay (bytes saved : List ℕ) (old new : World) (status : ℕ) : Type 0 where
   pub last : State
   pub whole : IsWholeRun (replay_setup bytes (journal_of saved)) (journal_of saved).entries last
   pub text : Appends old.written new.written (report (journal_of saved).entries last)
   pub answer : status ≡ code_of (end_status last.end)
   pub spent : (status ≡ 7) ↔ (last.end ≡ None)
-  pub spelling : AreBytes saved
-      → IsJournal (journal_of saved) × (saved ≡ journal_text (journal_of saved))
+  pub spelling : IsJournal (journal_of saved) × (saved ≡ journal_text (journal_of saved))
 
 -- the rewritten image was saved under its name, and nothing else: it is accepted, and nothing of it
 -- is unsafe; at how many sites it was rewritten was added to what was written
@@ -199,15 +200,17 @@ pub record ShowsRewritten (bytes : List ℕ) (out : Name) (old new : World)
   pub clean : image_list is.bytes ≡ []
   pub answer : status ≡ 0
   pub saved : new.held ≡ holding out is.bytes old.held
-  pub text : Appends old.written new.written (rewrote_line (length is.runs))
+  pub text : Appends old.written new.written (rewrote_line (length is.regions))
 
--- the made image was saved under its name, and nothing else; its line was added
+-- the generated image was saved under its name, and nothing else; its line was added
 pub record ShowsImage (seed : ℕ) (out : Name) (old new : World) (status : ℕ) : Type 0 where
   pub answer : status ≡ 0
   pub saved : new.held ≡ holding out (seed_image seed) old.held
   pub text : Appends old.written new.written (gen_line seed (length (seed_image seed)))
 
--- the bytes of each file that a command loads, and what it shows of them
+-- the bytes of each file that a command loads, and what it shows of them. That the store stays at
+-- `inspect`, `disasm` and `replay` is said by the clause `end`: the replies at the ends of their
+-- plans have no file.
 abbrev pub Shows : Command → Files → World → World → ℕ → Type 0
 Shows (Inspect image) files old new status =
     (bytes : List ℕ) × (files image ≡ Some bytes) × ShowsList bytes old new status

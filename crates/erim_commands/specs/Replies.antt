@@ -13,24 +13,24 @@ use Rattle.erim_defs.specs.Machine.Isolation.{IsIsolated}
 use Rattle.erim_defs.specs.Machine.Replay.{replay, IsOver}
 use Rattle.erim_defs.specs.Machine.State.{Setup, State}
 use Rattle.erim_defs.specs.Output.Journal.{JournalValue, IsJournal, journal_text, journal_fault}
-use Rattle.erim_defs.specs.Output.MadeImage.{seed_image}
-use Rattle.erim_defs.specs.Output.MadeTexts.{gen_line}
+use Rattle.erim_defs.specs.Output.GeneratedImage.{seed_image}
+use Rattle.erim_defs.specs.Output.GeneratedTexts.{gen_line}
 use Rattle.erim_defs.specs.Output.Report.{report}
 use Rattle.erim_defs.specs.Output.RewriteTexts.{rewrote_line}
 use Rattle.erim_defs.specs.Output.Texts.{inspect_text, fault_text, journal_fault_text, kind_text}
 use Rattle.erim_defs.specs.Output.Texts.{address_text, error_line}
 use Rattle.erim_defs.specs.Rewriting.Rewriting.{Rewritten, NotImage, Cannot, NoRoom}
 use Rattle.erim_defs.specs.Rewriting.Rewriting as definitions
-use Rattle.erim_process.specs.declared.start_fault.StartFault.{StartFault}
-use Rattle.erim_process.specs.declared.start_fault.StartFault.TheVariants.{TrustedUnsafe}
-use Rattle.erim_process.specs.declared.start_fault.StartFault.TheVariants.{TooFewFrames, Memory}
-use Rattle.erim_process.specs.StartFaults.{start_fault}
-use Rattle.thread_runner.specs.declared.replays.ReplayFault.{ReplayFault}
-use Rattle.thread_runner.specs.declared.replays.ReplayFault.TheVariants.{Start, PastEnd}
-use Rattle.thread_runner.specs.declared.replays.ReplayFault.TheVariants.{PastBudget, NotLive}
-use Rattle.thread_runner.specs.declared.replays.ReplayFault.TheVariants.{Unfinished}
-use Rattle.thread_runner.specs.Running.{AreAlone}
-use Rattle.isolation.specs.Laws.{AreLawful}
+use Rattle.erim_defs.specs.declared.start_fault.StartFault.{StartFault}
+use Rattle.erim_defs.specs.declared.start_fault.StartFault.TheVariants.{TrustedUnsafe}
+use Rattle.erim_defs.specs.declared.start_fault.StartFault.TheVariants.{TooFewFrames, Memory}
+use Rattle.erim_defs.specs.Machine.StartFaults.{start_fault}
+use Rattle.erim_defs.specs.declared.replay_fault.ReplayFault.{ReplayFault}
+use Rattle.erim_defs.specs.declared.replay_fault.ReplayFault.TheVariants.{Start, PastEnd}
+use Rattle.erim_defs.specs.declared.replay_fault.ReplayFault.TheVariants.{PastBudget, NotLive}
+use Rattle.erim_defs.specs.declared.replay_fault.ReplayFault.TheVariants.{Unfinished}
+use Rattle.erim_defs.specs.Machine.Replay.{AreAlone}
+use Rattle.erim_defs.specs.Machine.Lawful.{AreLawful}
 use Rattle.erim_commands.specs.declared.reply.Status.{Status}
 use Rattle.erim_commands.specs.declared.reply.Status.TheVariants.{Done, AtFault, Spent}
 use Rattle.erim_commands.specs.declared.reply.Status.TheVariants.{ImageRefused, JournalRefused}
@@ -47,12 +47,13 @@ pub record Reply : Type 0 where
   pub save : Option Saved
 
 -- a line that says why nothing was done
-abbrev pub told : Status → List ℕ → Reply
-told status text = record { status = status; text = error_line text; save = None }
+abbrev pub line_reply : Status → List ℕ → Reply
+line_reply status text = record { status = status; text = error_line text; save = None }
 
 -- ---- what is wrong with an image
 
--- its first fault, as text
+-- its first fault, as text. `first_fault` is never out of memory, so the line of
+-- `fault_text Memory` never comes.
 abbrev pub image_fault : List ℕ → Option (List ℕ)
 image_fault bytes = option_map fault_text (first_fault bytes)
 
@@ -61,7 +62,7 @@ abbrev pub start_text : StartFault → List ℕ
 start_text (TrustedUnsafe found) =
     codes "image trusted " ++ kind_text found.kind ++ codes " at " ++ address_text found.at
 start_text (TooFewFrames needed) = codes "image needs " ++ decimal needed ++ codes " frames"
--- never told: `start_fault` isn't want of memory
+-- a line that never comes: `start_fault` is never out of memory
 start_text Memory = codes "out of memory"
 
 -- the first cause that keeps it from starting, as text
@@ -70,7 +71,8 @@ start_refusal setup = option_map start_text (start_fault setup)
 
 -- ---- what is wrong with a journal
 
--- its first fault, as text
+-- its first fault, as text. `journal_fault` is never out of memory, so the line of
+-- `journal_fault_text Memory` never comes.
 abbrev pub journal_refusal : List ℕ → Option (List ℕ)
 journal_refusal bytes = option_map journal_fault_text (journal_fault bytes)
 
@@ -104,8 +106,8 @@ abbrev pub list_status : List Found → Status
 list_status [] = Done
 list_status (o ∷ os) = AtFault
 
-abbrev pub listed_reply : List Found → Reply
-listed_reply os = record { status = list_status os; text = inspect_text os; save = None }
+abbrev pub list_reply : List Found → Reply
+list_reply os = record { status = list_status os; text = inspect_text os; save = None }
 
 -- ---- disasm
 
@@ -145,40 +147,40 @@ pub record IsOwnRun (setup : Setup) (entries : List Entry) (last : State) : Type
 -- ---- run and soak
 
 -- the reply to a run: a text of it is printed, and its journal saved
-abbrev pub ran_reply : (List Entry → State → List ℕ) → Name → Setup → List Entry → State → Reply
-ran_reply told_of journal setup entries last = record {
+abbrev pub run_reply : (List Entry → State → List ℕ) → Name → Setup → List Entry → State → Reply
+run_reply text_of journal setup entries last = record {
   status = end_status last.end;
-  text = told_of entries last;
+  text = text_of entries last;
   save = Some (record { name = journal; bytes = journal_text (run_journal setup entries) });
 }
 
 -- the reply to some run, whichever schedule was taken
-pub record IsRunReply (told_of : List Entry → State → List ℕ) (journal : Name) (setup : Setup)
+pub record IsRunReply (text_of : List Entry → State → List ℕ) (journal : Name) (setup : Setup)
     (reply : Reply) : Type 0 where
   pub entries : List Entry
   pub last : State
   pub own : IsOwnRun setup entries last
-  pub answer : reply ≡ ran_reply told_of journal setup entries last
+  pub answer : reply ≡ run_reply text_of journal setup entries last
 
 -- ---- replay
 
-abbrev pub replayed_reply : List Entry → State → Reply
-replayed_reply entries last =
+abbrev pub replay_reply : List Entry → State → Reply
+replay_reply entries last =
     record { status = end_status last.end; text = report entries last; save = None }
 
 -- the reply to the whole run that entries lead to
 pub record IsReplayReply (setup : Setup) (entries : List Entry) (reply : Reply) : Type 0 where
   pub last : State
   pub whole : IsWholeRun setup entries last
-  pub answer : reply ≡ replayed_reply entries last
+  pub answer : reply ≡ replay_reply entries last
 
 -- ---- rewrite
 
--- the rewritten image is saved, and at how many sites it was rewritten is told
-abbrev pub rewritten_reply : Name → Rewritten → Reply
-rewritten_reply out r = record {
+-- the rewritten image is saved, and at how many sites it was rewritten is said
+abbrev pub rewrite_reply : Name → Rewritten → Reply
+rewrite_reply out r = record {
   status = Done;
-  text = rewrote_line (length r.runs);
+  text = rewrote_line (length r.regions);
   save = Some (record { name = out; bytes = r.bytes });
 }
 
@@ -193,14 +195,14 @@ gen_reply seed out = record {
 
 -- ---- all commands
 
--- what stands at a plan's end: one reply, those of a run, whose schedule may be chosen, with what is
--- told of it, or that of a replay
+-- what stands at a plan's end: one reply, those of a run, whose schedule may be chosen, with what
+-- is said of it, or that of a replay
 pub data Answer : Type 0 where
   One : Reply → Answer
-  Ran : (told_of : List Entry → State → List ℕ) (journal : Name) (setup : Setup) → Answer
+  Ran : (text_of : List Entry → State → List ℕ) (journal : Name) (setup : Setup) → Answer
   Replayed : (setup : Setup) (entries : List Entry) → Answer
 
 abbrev pub IsAnswer : Answer → Reply → Type 0
 IsAnswer (One reply) r = r ≡ reply
-IsAnswer (Ran told_of journal setup) r = IsRunReply told_of journal setup r
+IsAnswer (Ran text_of journal setup) r = IsRunReply text_of journal setup r
 IsAnswer (Replayed setup entries) r = IsReplayReply setup entries r

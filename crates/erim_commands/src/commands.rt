@@ -1,4 +1,4 @@
-//! The commands, each in a file of its own, and the two on made images in one.
+//! The commands, each in a file of its own, and the two on generated images in one.
 
 ghost use Rattle.command_words.specs.Commands.{HasNumbers, meaning};
 ghost use Rattle.erim_commands.specs.Commands.{plan_of};
@@ -6,8 +6,8 @@ ghost use Rattle.erim_commands.specs.Delivery.{Carries, world};
 ghost use Rattle.erim_commands.specs.Replies.{IsAnswer};
 
 mod disasm;
+mod generated;
 mod inspect;
-mod made;
 mod replay;
 mod rewrite;
 mod run;
@@ -40,7 +40,7 @@ pub fn carry_out<S: Store, K: Sink>(
         } => run::run(alloc, image, journal, workers, steps, frames, store, out),
         Command::Replay { image, journal } => replay::replay(alloc, image, journal, store, out),
         Command::Rewrite { image, out: name } => rewrite::rewrite(alloc, image, name, store, out),
-        Command::Gen { seed, out: name } => made::generate(alloc, seed, name, store, out),
-        Command::Soak { seed, journal } => made::soak(alloc, seed, journal, store, out),
+        Command::Gen { seed, out: name } => generated::generate(alloc, seed, name, store, out),
+        Command::Soak { seed, journal } => generated::soak(alloc, seed, journal, store, out),
     }
 }

@@ -1,7 +1,7 @@
 //! Delivers replies: saves their files and puts their texts.
 
 ghost use Rattle.std.specs.Prelude.{◌≡◌};
-ghost use Rattle.erim_commands.specs.CallParts.{IsMadeFor, Puts, SavesHeld, noted_file, reply_of};
+ghost use Rattle.erim_commands.specs.CallParts.{IsReplyFor, Puts, SavesHeld, noted_file, reply_of};
 ghost use Rattle.erim_commands.specs.CallParts.{save_of};
 ghost use Rattle.erim_commands.specs.Delivery.{Carries, Delivers, world};
 ghost use Rattle.erim_commands.specs.Plans.{Plan};
@@ -51,7 +51,7 @@ fn deliver<S: Store, K: Sink>(store: &mut S, out: &mut K, reply: &Reply) -> u8
 pub fn conclude<S: Store, K: Sink>(store: &mut S, out: &mut K, reply: Result<Reply, NoMemory>) -> u8
     ensures { let old = world S.Store K.Sink store.old out.old in
         let new = world S.Store K.Sink store.new out.new in
-        (plan : Plan Answer) → IsMadeFor plan reply.entry → Carries IsAnswer plan old new result }
+        (plan : Plan Answer) → IsReplyFor plan reply.entry → Carries IsAnswer plan old new result }
 {
     match reply {
         Ok(reply) => deliver(store, out, &reply),

@@ -2,6 +2,7 @@
 
 ghost use Rattle.std.specs.Prelude.{◌≡◌, ◌≢◌, ℕ, List, IfOk};
 ghost use Rattle.std.specs.String.{string_bytes};
+ghost use Rattle.erim_defs.specs.Encoding.Parts.{AreBytes};
 ghost use Rattle.erim_defs.specs.Output.Journal.{IsJournal};
 ghost use Rattle.erim_defs.specs.Output.Texts.{error_line, fault_text, journal_fault_text};
 ghost use Rattle.erim_commands.specs.declared.reply.Status.TheVariants.{ImageRefused};
@@ -9,22 +10,22 @@ ghost use Rattle.erim_commands.specs.declared.reply.Status.TheVariants.{JournalR
 ghost use Rattle.erim_commands.specs.CallParts.{Loads, Passes, reply_of};
 ghost use Rattle.erim_commands.specs.Commands.{image_format, journal_format, with_file};
 ghost use Rattle.erim_commands.specs.Delivery.{world};
-ghost use Rattle.erim_commands.specs.Replies.{told};
+ghost use Rattle.erim_commands.specs.Replies.{line_reply};
 
 use crate::delivery::{conclude, put};
 use crate::reply::{FAILED, OUT_OF_MEMORY, Reply, Status, code_of};
 use crate::text::{fault_line, journal_fault_line};
 use elf_image::{Image, ImageFault, read_image};
+use erim_defs::limits::{MOST_IMAGE_BYTES, MOST_JOURNAL_BYTES};
 use erim_defs::{JournalFault, NoMemory};
 use erim_io::{LoadFault, Sink, Store};
 use journal_bytes::{Journal, read_journal};
 use std::alloc::Global;
 
-/// The most bytes that an image may have: 8 MiB.
-const IMAGE_LIMIT: u64 = 8_388_608;
-
-/// The most bytes that a journal may have: those of 4,194,304 entries.
-const JOURNAL_LIMIT: u64 = 33_554_452;
+/// Reads off a slice what holds of each: its elements are below 256.
+fn note_bytes(bytes: &[u8])
+    ensures { AreBytes bytes.now }
+{}
 
 /// Loads a file of at most `limit` bytes. Where it is larger, the line is put, with the status.
 fn load<S: Store, K: Sink>(
@@ -39,11 +40,14 @@ fn load<S: Store, K: Sink>(
     ensures { let old = world S.Store K.Sink store.old out.old in
         let new = world S.Store K.Sink store.new out.new in
         (text : List ℕ) → line.now ≡ error_line text
-        → Loads name.now limit (told status text) old new result }
+        → Loads name.now limit (line_reply status text) old new result }
 {
     let mut bytes = Vec::new(alloc);
     match store.load(name, limit, &mut bytes) {
-        Ok(()) => Ok(bytes),
+        Ok(()) => {
+            note_bytes(bytes.as_slice());
+            Ok(bytes)
+        }
         Err(LoadFault::Failed) => Err(put(out, FAILED, b"erim: load failed\n")),
         Err(LoadFault::TooLarge { length: _ }) => Err(put(out, code_of(status), line)),
         Err(LoadFault::Memory) => Err(OUT_OF_MEMORY),
@@ -51,9 +55,9 @@ fn load<S: Store, K: Sink>(
 }
 
 /// The reply of a command that does nothing, for the reason that the line says.
-pub fn refused<'a>(status: Status, line: String) -> Reply<'a>
+pub fn line_reply<'a>(status: Status, line: String) -> Reply<'a>
     ensures { (text : List ℕ) → string_bytes line ≡ error_line text
-        → reply_of result ≡ told status text }
+        → reply_of result ≡ line_reply status text }
 {
     Reply {
         status,
@@ -62,15 +66,15 @@ pub fn refused<'a>(status: Status, line: String) -> Reply<'a>
     }
 }
 
-/// The reply of a command whose image has this fault, unless it is want of memory.
-fn faulty_image<'a>(alloc: Global, fault: &ImageFault) -> Result<Reply<'a>, NoMemory>
+/// The reply of a command whose image has this fault, unless memory ran out.
+fn image_fault_reply<'a>(alloc: Global, fault: &ImageFault) -> Result<Reply<'a>, NoMemory>
     ensures { IfOk result (λ reply. (fault.now ≢ ImageFault.Memory)
-        × (reply_of reply ≡ told ImageRefused (fault_text fault.now))) }
+        × (reply_of reply ≡ line_reply ImageRefused (fault_text fault.now))) }
 {
     match fault {
         ImageFault::Memory => Err(NoMemory),
         _ => match fault_line(alloc, fault) {
-            Ok(line) => Ok(refused(Status::ImageRefused, line)),
+            Ok(line) => Ok(line_reply(Status::ImageRefused, line)),
             Err(NoMemory) => Err(NoMemory),
         },
     }
@@ -88,27 +92,27 @@ pub fn load_image<S: Store, K: Sink>(
         let new = world S.Store K.Sink store.new out.new in
         Passes (with_file image_format name.now) old new result }
 {
-    let refused = Status::ImageRefused;
+    let refusal = Status::ImageRefused;
     let line = b"erim: image too large\n";
-    let bytes = match load(alloc, name, IMAGE_LIMIT, refused, line, store, out) {
+    let bytes = match load(alloc, name, MOST_IMAGE_BYTES, refusal, line, store, out) {
         Ok(bytes) => bytes,
         Err(status) => return Err(status),
     };
     match read_image(alloc, bytes.as_slice()) {
         Ok(image) => Ok(image),
-        Err(fault) => Err(conclude(store, out, faulty_image(alloc, &fault))),
+        Err(fault) => Err(conclude(store, out, image_fault_reply(alloc, &fault))),
     }
 }
 
-/// The reply of a command whose journal has this fault, unless it is want of memory.
-fn faulty_journal<'a>(alloc: Global, fault: &JournalFault) -> Result<Reply<'a>, NoMemory>
+/// The reply of a command whose journal has this fault, unless memory ran out.
+fn journal_fault_reply<'a>(alloc: Global, fault: &JournalFault) -> Result<Reply<'a>, NoMemory>
     ensures { IfOk result (λ reply. (fault.now ≢ JournalFault.Memory)
-        × (reply_of reply ≡ told JournalRefused (journal_fault_text fault.now))) }
+        × (reply_of reply ≡ line_reply JournalRefused (journal_fault_text fault.now))) }
 {
     match fault {
         JournalFault::Memory => Err(NoMemory),
         _ => match journal_fault_line(alloc, fault) {
-            Ok(line) => Ok(refused(Status::JournalRefused, line)),
+            Ok(line) => Ok(line_reply(Status::JournalRefused, line)),
             Err(NoMemory) => Err(NoMemory),
         },
     }
@@ -127,14 +131,14 @@ pub fn load_journal<S: Store, K: Sink>(
         let new = world S.Store K.Sink store.new out.new in
         Passes (with_file journal_format name.now) old new result }
 {
-    let refused = Status::JournalRefused;
+    let refusal = Status::JournalRefused;
     let line = b"erim: journal too large\n";
-    let bytes = match load(alloc, name, JOURNAL_LIMIT, refused, line, store, out) {
+    let bytes = match load(alloc, name, MOST_JOURNAL_BYTES, refusal, line, store, out) {
         Ok(bytes) => bytes,
         Err(status) => return Err(status),
     };
     match read_journal(alloc, bytes.as_slice()) {
         Ok(journal) => Ok(journal),
-        Err(fault) => Err(conclude(store, out, faulty_journal(alloc, &fault))),
+        Err(fault) => Err(conclude(store, out, journal_fault_reply(alloc, &fault))),
     }
 }

@@ -1,25 +1,22 @@
-//! What the commands that run processes share: their numbers, and parts of their replies.
+//! What the commands that run processes share: parts of their replies.
 
 ghost use Rattle.std.specs.Prelude.{◌≡◌, ℕ, List, IfOk};
 ghost use Rattle.erim_defs.specs.declared.machine.Entry.{Entry};
 ghost use Rattle.erim_defs.specs.Machine.Replay.{IsOver};
 ghost use Rattle.erim_defs.specs.Machine.State.{State};
 ghost use Rattle.erim_process.specs.ProcessValue.{state_of};
-ghost use Rattle.thread_runner.specs.Running.{AreAlone};
+ghost use Rattle.erim_defs.specs.Machine.Replay.{AreAlone};
 ghost use Rattle.erim_commands.specs.declared.reply.Status.TheVariants.{ImageRefused};
 ghost use Rattle.erim_commands.specs.CallParts.{reply_of};
-ghost use Rattle.erim_commands.specs.Replies.{IsRunReply, end_status, start_text, told};
+ghost use Rattle.erim_commands.specs.Replies.{IsRunReply, end_status, start_text, line_reply};
 
-use crate::loads::refused;
+use crate::loads::line_reply;
 use crate::reply::{Reply, Save, Status};
 use crate::text::start_line;
 use erim_defs::{End, NoMemory};
 use erim_process::{Process, StartFault};
 use journal_bytes::write_journal;
 use std::alloc::Global;
-
-/// How many steps a thread makes in a row, before the next one's turn.
-pub const QUANTUM: u32 = 64;
 
 /// The status of a process that has ended, or whose budget is spent.
 pub fn end_status(end: Option<End>) -> Status
@@ -33,11 +30,12 @@ pub fn end_status(end: Option<End>) -> Status
 }
 
 /// The reply of a command whose image can't start for this cause.
-pub fn unstarted<'a>(alloc: Global, fault: &StartFault) -> Result<Reply<'a>, NoMemory>
-    ensures { IfOk result (λ reply. reply_of reply ≡ told ImageRefused (start_text fault.now)) }
+pub fn start_refusal_reply<'a>(alloc: Global, fault: &StartFault) -> Result<Reply<'a>, NoMemory>
+    ensures { IfOk result (λ reply.
+        reply_of reply ≡ line_reply ImageRefused (start_text fault.now)) }
 {
     match start_line(alloc, fault) {
-        Ok(line) => Ok(refused(Status::ImageRefused, line)),
+        Ok(line) => Ok(line_reply(Status::ImageRefused, line)),
         Err(NoMemory) => Err(NoMemory),
     }
 }
@@ -52,9 +50,9 @@ pub fn run_reply<'a>(
 ) -> Result<Reply<'a>, NoMemory>
     requires over { IsOver (state_of process.now) }
     requires alone { AreAlone process.now.journal }
-    ensures { IfOk result (λ reply. (told_of : List Entry → State → List ℕ)
-        → text.items ≡ told_of process.now.journal (state_of process.now)
-        → IsRunReply told_of journal.now process.now.setup (reply_of reply)) }
+    ensures { IfOk result (λ reply. (text_of : List Entry → State → List ℕ)
+        → text.items ≡ text_of process.now.journal (state_of process.now)
+        → IsRunReply text_of journal.now process.now.setup (reply_of reply)) }
 {
     let setup = process.setup();
     let bytes = write_journal(alloc, process.journal(), setup.budget, setup.frames)?;

@@ -17,7 +17,7 @@ use thread_runner::ReplayFault;
 
 /// The line that says what is wrong with one of the things of an image.
 #[tactic(auto, unfolding(erim_defs::specs::Output::Texts::error_line))]
-fn numbered(alloc: Global, thing: &str, index: u32, wrong: &str) -> Result<String, AllocError>
+fn indexed_line(alloc: Global, thing: &str, index: u32, wrong: &str) -> Result<String, AllocError>
     ensures { IfOk result (λ text. string_bytes text
         ≡ error_line (codes "image " ++ thing.now ++ codes " " ++ decimal index ++ wrong.now)) }
 {
@@ -37,18 +37,23 @@ fn named_fault(alloc: Global, fault: &ImageFault) -> Result<String, AllocError>
         ImageFault::Machine => format!(in alloc; "erim: image machine\n"),
         ImageFault::HeaderSize => format!(in alloc; "erim: image header size\n"),
         ImageFault::TooMany { count } => format!(in alloc; "erim: image headers {count}\n"),
-        ImageFault::NotStatic { index } => numbered(alloc, "header", *index, " not static"),
-        ImageFault::SegmentRange { index } => numbered(alloc, "segment", *index, " range"),
-        ImageFault::SharedPage { index } => numbered(alloc, "segment", *index, " shares a page"),
+        ImageFault::NotStatic { index } => indexed_line(alloc, "header", *index, " not static"),
+        ImageFault::SegmentRange { index } => indexed_line(alloc, "segment", *index, " range"),
+        ImageFault::SharedPage { index } => indexed_line(
+            alloc,
+            "segment",
+            *index,
+            " shares a page",
+        ),
         ImageFault::NoteShape { at } => format!(in alloc; "erim: image note at {at}\n"),
         ImageFault::NoteVersion => format!(in alloc; "erim: image note version\n"),
         ImageFault::BadRecord { index } => format!(in alloc; "erim: image record {index}\n"),
-        ImageFault::TextNotExec { index } => numbered(alloc, "record", *index, " text"),
-        ImageFault::DataRange { index } => numbered(alloc, "record", *index, " data"),
-        ImageFault::EntryNotTrusted { index } => numbered(alloc, "record", *index, " entry"),
+        ImageFault::TextNotExec { index } => indexed_line(alloc, "record", *index, " text"),
+        ImageFault::DataRange { index } => indexed_line(alloc, "record", *index, " data"),
+        ImageFault::EntryNotTrusted { index } => indexed_line(alloc, "record", *index, " entry"),
         ImageFault::BadFunction { index } => format!(in alloc; "erim: image function {index}\n"),
         ImageFault::EntryPoint => format!(in alloc; "erim: image entry point\n"),
-        // No caller names want of memory, which has a status and no line.
+        // No caller names out of memory, which has a status and no line.
         ImageFault::Memory => format!(in alloc; "erim: out of memory\n"),
     }
 }

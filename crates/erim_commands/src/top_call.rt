@@ -17,8 +17,10 @@ use crate::delivery::put;
 use crate::reply::{OUT_OF_MEMORY, Status, code_of};
 use command_words::command_of;
 use erim_io::{Sink, Store};
-use rewriting_laws::answered;
+use image_gen::generated_startable;
+use rewriting_laws::rewriting_is_clean;
 use std::alloc::Global;
+use thread_runner::unbroken;
 
 /// Does the command that the words mean.
 fn obey<S: Store, K: Sink>(alloc: Global, words: &[String], store: &mut S, out: &mut K) -> u8
@@ -44,8 +46,8 @@ fn obey<S: Store, K: Sink>(alloc: Global, words: &[String], store: &mut S, out: 
 /// `run IMAGE JOURNAL` runs the image, saves the journal of the run and prints its report;
 /// `replay IMAGE JOURNAL` runs it by a journal and prints the report; `rewrite IMAGE OUT` saves an
 /// image in which no sequence is unsafe, rewritten from the image; `gen SEED OUT` saves the image
-/// that is made from a seed; `soak SEED JOURNAL` runs that image, saves the journal of the run and
-/// prints its line.
+/// that is generated from a seed; `soak SEED JOURNAL` runs that image, saves the journal of the run
+/// and prints its line.
 pub fn erim_plain<S: Store, K: Sink>(
     alloc: Global,
     words: &[String],
@@ -58,7 +60,7 @@ pub fn erim_plain<S: Store, K: Sink>(
         let new = world S.Store K.Sink store.new out.new in
         Carries IsAnswer (plan_for command) old new result }
 
-    // Over files that the store tells, an answer but 4 and 5 is that of the plan's end, whose reply
+    // Over files that the store says, an answer but 4 and 5 is that of the plan's end, whose reply
     // was delivered whole.
     ensures end { let command = command_of (map string_bytes words.now) in
         let old = world S.Store K.Sink store.old out.old in
@@ -72,7 +74,8 @@ pub fn erim_plain<S: Store, K: Sink>(
     ensures image { let old = world S.Store K.Sink store.old out.old in
         TellsRefusal ImageRefused (command_of (map string_bytes words.now)) old result }
 
-    // 6 exactly where the journal is too large, isn't one, or its steps can't all be made to an end.
+    // 6 exactly where the journal is too large, isn't one, or its steps can't all be made to an
+    // end.
     ensures journal { let old = world S.Store K.Sink store.old out.old in
         TellsRefusal JournalRefused (command_of (map string_bytes words.now)) old result }
 
@@ -80,11 +83,11 @@ pub fn erim_plain<S: Store, K: Sink>(
     ensures rewriting { let old = world S.Store K.Sink store.old out.old in
         TellsRefusal RewriteRefused (command_of (map string_bytes words.now)) old result }
 
-    // Else: `inspect` told the unsafe list of the image code; `disasm` told its instructions; `run`
-    // saved the journal of a whole run of the machine and told the report of its replay, which is
-    // what `replay` tells of that journal; `rewrite` saved the rewritten image, which is accepted,
-    // and of which nothing is unsafe; `gen` saved the made image; `soak` did as `run` and told its
-    // line.
+    // Else: `inspect` said the unsafe list of the image code; `disasm` said its instructions; `run`
+    // saved the journal of a whole run of the machine and said the report of its replay, which is
+    // what `replay` says of that journal; `rewrite` saved the rewritten image, which is accepted,
+    // and of which nothing is unsafe; `gen` saved the generated image; `soak` did as `run` and said
+    // its line.
     ensures work { let command = command_of (map string_bytes words.now) in
         let old = world S.Store K.Sink store.old out.old in
         TellsWork command old (world S.Store K.Sink store.new out.new) result }
@@ -104,11 +107,13 @@ pub fn erim_plain<S: Store, K: Sink>(
     ensures memory { let old = world S.Store K.Sink store.old out.old in
         TellsMemory old (world S.Store K.Sink store.new out.new) result }
 
-    // Without a fault the refusal or the work is told, unless memory runs out.
+    // Without a fault the refusal or the work is said, unless memory runs out.
     ensures complete { let command = command_of (map string_bytes words.now) in
         let old = world S.Store K.Sink store.old out.old in
         IsComplete command old (world S.Store K.Sink store.new out.new) result }
 {
-    answered();
+    rewriting_is_clean();
+    unbroken();
+    generated_startable();
     obey(alloc, words, store, out)
 }

@@ -20,7 +20,7 @@ use Rattle.erim_defs.proofs.RecordLemmas.{key_none, no_key_at, plain_key, plain_
 use Rattle.erim_defs.proofs.RecordLemmas.{key_beside_data, key_named}
 use Rattle.erim_defs.specs.Inspection.Trust.{entry_key, flag_at, is_domain, key_beside, text_key}
 use Rattle.erim_defs.specs.Inspection.Image.{data_keys, key_flags, record_fault}
-use Rattle.erim_defs.specs.Machine.Domains.{opened, is_set_but}
+use Rattle.erim_defs.specs.Machine.Domains.{opened_domains, is_set_but}
 use Rattle.erim_defs.specs.Machine.Start.{page_key}
 use Rattle.std.proofs.lemmas.Bool.{cases_Bool, or_right}
 use Rattle.std.proofs.Common.{Bool, subst, eqb, eqb-true, arith, None, cond, zero, suc, ◌||◌}
@@ -118,8 +118,8 @@ entries_else image a none = no_key_at (records image) a none
 -- a note of version 1 has one domain, and in its text a thread is at home
 pub plain_at_home : (image : List ℕ) (a p : ℕ) → IsAccepted image
     → (image_trust image).strict ≡ false → is_entry_of (image_trust image) a ≡ true
-    → is_set_but (text_key (image_trust image) a) (opened (image_trust image) p) ≡ false
-unfolding image_trust text_key is_set_but opened
+    → is_set_but (text_key (image_trust image) a) (opened_domains (image_trust image) p) ≡ false
+unfolding image_trust text_key is_set_but opened_domains
 plain_at_home image a p h plain there =
     let s = sound image h in
     let recorded : record_fault false 0 [] (records image) ≡ None =

@@ -14,7 +14,7 @@ laid_at_place base k a bytes e =
     let place : a - base ≡ k = omega arith in
     rw (above, place) refl
 
--- behind the list there is nothing
+-- after the list there is nothing
 pub laid_at_past : (base a : ℕ) (bytes : List ℕ) → base + length bytes ≤ a
     → laid_at base bytes a ≡ None
 laid_at_past base a bytes past =

@@ -5,7 +5,7 @@ use Rattle.std.proofs.Common.{eqb-true, ne_eqb, eq-eqb}
 use Rattle.std.proofs.lemmas.Bool.{cases_Bool, eqb-false}
 use Rattle.erim_defs.specs.declared.machine.Rights.{Rights}
 use Rattle.erim_defs.specs.Machine.Pages.{RightsMap, with_value_at}
-use Rattle.erim_defs.specs.Machine.Count.{count_below, mapped, last_page, last_page_is}
+use Rattle.erim_defs.specs.Machine.Count.{count_below, mapped_pages, last_page, last_page_is}
 
 pub count_same : (n : ℕ) (f g : ℕ → Bool) → ((k : ℕ) → k < n → f k ≡ g k)
     → count_below n f ≡ count_below n g
@@ -36,8 +36,9 @@ count_none (suc n) f h = rw (h n) (let e = count_none n f h in omega (arith, e))
 
 -- what mapping and unmapping a page does to the count
 pub mapped_put : (m : RightsMap) (q : ℕ) (x : Option Rights) → q < 2 ^ 35
-    → mapped (with_value_at m q x) + cond (is_some (m q)) 1 0 ≡ mapped m + cond (is_some x) 1 0
-unfolding mapped
+    → mapped_pages (with_value_at m q x) + cond (is_some (m q)) 1 0
+    ≡ mapped_pages m + cond (is_some x) 1 0
+unfolding mapped_pages
 mapped_put m q x l =
     let low : q < last_page = subst (λ (n : ℕ). q < n) (sym last_page_is) l in
     let here : with_value_at m q x q ≡ x = rw (eq-eqb q q refl) refl in
@@ -45,13 +46,13 @@ mapped_put m q x l =
     (λ k n. rw (ne_eqb k q n) refl) in
     e ∙ ap (λ y. count_below last_page (λ k. is_some (m k)) + cond (is_some y) 1 0) here
 
-pub mapped_none : mapped (λ _. None) ≡ 0
-unfolding mapped
+pub mapped_none : mapped_pages (λ _. None) ≡ 0
+unfolding mapped_pages
 mapped_none = count_none last_page (λ _. false) (λ _. refl)
 
 -- a page more
 pub mapped_more : (m : RightsMap) (q : ℕ) (r : Rights) → q < 2 ^ 35 → m q ≡ None
-    → mapped (with_value_at m q (Some r)) ≡ mapped m + 1
+    → mapped_pages (with_value_at m q (Some r)) ≡ mapped_pages m + 1
 mapped_more m q r low none =
     let e = mapped_put m q (Some r) low in
     let zeros : ℕ = 0 in

@@ -6,12 +6,12 @@ use Rattle.std.proofs.Common.{length, drop, get_or}
 use Rattle.erim_defs.specs.Inspection.Trust.{key_beside}
 use Rattle.std.proofs.Common.{◌-◌, not, inl, inr, ne_eqb, lit≤, eqb-true, eq-eqb}
 use Rattle.std.specs.List.{list_any}
-use Rattle.std.proofs.lemmas.Bool.{cases_Bool, cases_lt, and_parts, or_parts, or_right}
+use Rattle.std.proofs.lemmas.Bool.{cases_Bool, cases_lt, or_parts}
 use Rattle.erim_defs.specs.Inspection.Trust.{TrustValue, flag_at, is_domain, is_integrity, key_bits}
 use Rattle.erim_defs.specs.Inspection.Trust.{pkru_of}
 use Rattle.erim_defs.specs.Inspection.Image.{image_trust}
 use Rattle.erim_defs.specs.Machine.Access.{opens, opens_write}
-use Rattle.erim_defs.specs.Machine.Domains.{opens_domain, opened, is_set_but}
+use Rattle.erim_defs.specs.Machine.Domains.{opens_domain, opened_domains, is_set_but}
 use Rattle.erim_defs.specs.Machine.MapCalls.{with_key_rights}
 use Rattle.std.proofs.lemmas.Nat.{pow-add}
 use Rattle.std.proofs.Math.Nat.{mod-add-div, mul_assoc}
@@ -49,8 +49,8 @@ set_but_from (suc k) (b ∷ bs) h =
 
 -- a domain of an image is one of the keys 1 to 4
 pub domain_flag : (image : List ℕ) (p d : ℕ) → is_domain (image_trust image) d ≡ true
-    → flag_at (opened (image_trust image) p) d ≡ opens_domain (image_trust image) p d
-unfolding image_trust opened
+    → flag_at (opened_domains (image_trust image) p) d ≡ opens_domain (image_trust image) p d
+unfolding image_trust opened_domains
 domain_flag image p zero h = absurd cc
 domain_flag image p (suc zero) h = refl
 domain_flag image p (suc (suc zero)) h = refl
@@ -60,18 +60,18 @@ domain_flag image p (suc (suc (suc (suc (suc d))))) h = absurd cc
 
 -- who opens a domain and isn't outside stands in its text
 pub set_but_key : (image : List ℕ) (k p d : ℕ)
-    → is_set_but k (opened (image_trust image) p) ≡ false
+    → is_set_but k (opened_domains (image_trust image) p) ≡ false
     → is_domain (image_trust image) d ≡ true → opens_domain (image_trust image) p d ≡ true → k ≡ d
 set_but_key image k p d out is opens = elim (cases_Bool (eqb d k)) [
   | inl same ↦ sym (eqb-true _ _ same)
-  | inr other ↦ absurd (let z = set_but_none k d (opened (image_trust image) p) out
+  | inr other ↦ absurd (let z = set_but_none k d (opened_domains (image_trust image) p) out
       (λ e. let y : false ≡ true = sym other ∙ eq-eqb d k e in absurd cc) in
       let y : true ≡ false = sym opens ∙ sym (domain_flag image p d is) ∙ z in cc)
 ]
 
 -- key 0 is none
-none_first : (trust : TrustValue) (p : ℕ) → flag_at (opened trust p) 0 ≡ false
-unfolding opened
+none_first : (trust : TrustValue) (p : ℕ) → flag_at (opened_domains trust p) 0 ≡ false
+unfolding opened_domains
 none_first trust p = refl
 
 -- ---- the values of gates
@@ -133,8 +133,8 @@ shut trust o p key n e =
 
 -- the value that opens one domain opens no other
 pub pkru_opens : (trust : TrustValue) (o d : ℕ) → d ≢ o
-    → flag_at (opened trust (pkru_of trust o)) d ≡ false
-unfolding opened pkru_of
+    → flag_at (opened_domains trust (pkru_of trust o)) d ≡ false
+unfolding opened_domains pkru_of
 pkru_opens trust o zero n = refl
 pkru_opens trust o (suc zero) n =
     shut trust o _ 1 n (digit_1 _ _ _ _ (key_bits_few trust o 1) (key_bits_few trust o 2)
@@ -151,8 +151,8 @@ pkru_opens trust o (suc (suc (suc (suc zero)))) n =
 pkru_opens trust o (suc (suc (suc (suc (suc d))))) n = refl
 
 pub pkru_at_home : (trust : TrustValue) (o : ℕ)
-    → is_set_but o (opened trust (pkru_of trust o)) ≡ false
-pkru_at_home trust o = set_but_from o (opened trust (pkru_of trust o)) (pkru_opens trust o)
+    → is_set_but o (opened_domains trust (pkru_of trust o)) ≡ false
+pkru_at_home trust o = set_but_from o (opened_domains trust (pkru_of trust o)) (pkru_opens trust o)
 
 -- ---- other keys
 
@@ -166,8 +166,8 @@ same_bits false p q d e =
 -- what opens is a matter of the two bits of each domain
 pub opened_by : (trust : TrustValue) (p q : ℕ)
     → ((d : ℕ) → is_domain trust d ≡ true → (p / 2 ^ (2 * d)) % 4 ≡ (q / 2 ^ (2 * d)) % 4)
-    → opened trust p ≡ opened trust q
-unfolding opened
+    → opened_domains trust p ≡ opened_domains trust q
+unfolding opened_domains
 opened_by trust p q same = rw (one 1, one 2, one 3, one 4) refl
   where
     one : (d : ℕ) → opens_domain trust p d ≡ opens_domain trust q d
@@ -178,26 +178,27 @@ opened_by trust p q same = rw (one 1, one 2, one 3, one 4) refl
 
 -- a value that opens none closes everywhere
 pub pkru_closed : (trust : TrustValue) (k : ℕ)
-    → is_set_but k (opened trust (pkru_of trust 0)) ≡ false
-pkru_closed trust k = set_but_from k (opened trust (pkru_of trust 0)) by
+    → is_set_but k (opened_domains trust (pkru_of trust 0)) ≡ false
+pkru_closed trust k = set_but_from k (opened_domains trust (pkru_of trust 0)) by
   where
-    by : (d : ℕ) → d ≢ k → flag_at (opened trust (pkru_of trust 0)) d ≡ false
+    by : (d : ℕ) → d ≢ k → flag_at (opened_domains trust (pkru_of trust 0)) d ≡ false
     by zero n = none_first trust (pkru_of trust 0)
     by (suc d) n = pkru_opens trust 0 (suc d) (λ e. absurd (omega (arith, e)))
 
 -- who opens another domain is open
-pub outside_open : (trust : TrustValue) (p k : ℕ) → is_set_but k (opened trust p) ≡ true
-    → is_set_but 0 (opened trust p) ≡ true
-outside_open trust p k out = elim (cases_Bool (is_set_but 0 (opened trust p))) [
+pub outside_open : (trust : TrustValue) (p k : ℕ) → is_set_but k (opened_domains trust p) ≡ true
+    → is_set_but 0 (opened_domains trust p) ≡ true
+outside_open trust p k out = elim (cases_Bool (is_set_but 0 (opened_domains trust p))) [
   | inl y ↦ y
-  | inr n ↦ absurd (let z = set_but_from k (opened trust p) (by n) in
+  | inr n ↦ absurd (let z = set_but_from k (opened_domains trust p) (by n) in
       let y : false ≡ true = sym z ∙ out in cc)
 ]
   where
-    by : is_set_but 0 (opened trust p) ≡ false → (d : ℕ) → d ≢ k
-        → flag_at (opened trust p) d ≡ false
+    by : is_set_but 0 (opened_domains trust p) ≡ false → (d : ℕ) → d ≢ k
+        → flag_at (opened_domains trust p) d ≡ false
     by n zero m = none_first trust p
-    by n (suc d) m = set_but_none 0 (suc d) (opened trust p) n (λ e. absurd (omega (arith, e)))
+    by n (suc d) m = set_but_none 0 (suc d) (opened_domains trust p) n (λ e. absurd (omega
+        (arith, e)))
 
 -- ---- bits of another key
 
@@ -275,7 +276,8 @@ domain_range image (suc (suc (suc (suc (suc d))))) h = absurd cc
 -- rights of a key that is no domain open and close none
 pub rights_opened : (image : List ℕ) (p key bits : ℕ) → 2 ≤ key → bits < 4
     → ((d : ℕ) → is_domain (image_trust image) d ≡ true → d ≢ key)
-    → opened (image_trust image) (with_key_rights p key bits) ≡ opened (image_trust image) p
+    → opened_domains (image_trust image) (with_key_rights p key bits)
+    ≡ opened_domains (image_trust image) p
 rights_opened image p key bits l b n =
     opened_by (image_trust image) (with_key_rights p key bits) p
     (λ d is. let r = domain_range image d is in other_bits p key bits d l b (n d is) r.0 r.1)
@@ -284,10 +286,10 @@ rights_opened image p key bits l b n =
 
 -- each flag but one
 pub set_but_flags : (trust : TrustValue) (p k : ℕ)
-    → is_set_but k (opened trust p) ≡ ((not (eqb k 1) && opens_domain trust p 1)
+    → is_set_but k (opened_domains trust p) ≡ ((not (eqb k 1) && opens_domain trust p 1)
     || ((not (eqb k 2) && opens_domain trust p 2)
     || ((not (eqb k 3) && opens_domain trust p 3) || (not (eqb k 4) && opens_domain trust p 4))))
-unfolding is_set_but opened
+unfolding is_set_but opened_domains
 set_but_flags trust p k = by k (opens_domain trust p 1) (opens_domain trust p 2)
     (opens_domain trust p 3) (opens_domain trust p 4)
   where

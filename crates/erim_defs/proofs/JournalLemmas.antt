@@ -8,7 +8,8 @@ use Rattle.std.specs.Prelude.{nat_le, nat_lt, ◌&&◌, not, codes}
 use Rattle.std.specs.List.{flat_map}
 use Rattle.std.specs.Int.{w16, w32, to_le_bytes}
 use Rattle.std.specs.Str.{bytes_eq}
-use Rattle.std.proofs.lemmas.Bool.{cases_lt, le-ltb, le-leb, leb-true, ltb-false, not-false}
+use Rattle.std.proofs.lemmas.Bool.{ltb-true, cases_lt, le-ltb, le-leb, leb-true, ltb-false}
+use Rattle.std.proofs.lemmas.Bool.{not-false}
 use Rattle.std.proofs.lemmas.List.{drop-drop, drop_all, get_or-drop, get_or-take, get_or_past}
 use Rattle.std.proofs.lemmas.List.{length-take-le, take-append-drop}
 use Rattle.std.proofs.lemmas.List.Concat.{flat_map-cons}
@@ -20,7 +21,7 @@ use Rattle.erim_defs.specs.declared.journal.JournalFault.TheVariants.{BadEntry}
 use Rattle.erim_defs.specs.declared.machine.Entry.{Entry}
 use Rattle.erim_defs.specs.Inspection.Image.{number_at}
 use Rattle.erim_defs.specs.Output.Journal.{JournalValue, IsJournal, AreEntries, OneJournal}
-use Rattle.erim_defs.specs.Output.Journal.{is_entry, entry_bytes, journal_text}
+use Rattle.erim_defs.specs.Output.Journal.{is_journal_entry, entry_bytes, journal_text}
 use Rattle.erim_defs.specs.Output.Journal.{entry_at, entries_from}
 use Rattle.erim_defs.specs.Output.Journal.{budget_of, frames_of, count_of, journal_of, entry_fault}
 use Rattle.erim_defs.specs.Output.Journal.{journal_fault}
@@ -42,7 +43,7 @@ passed false fault others none = (refl, none)
 
 -- ---- numbers and their bytes
 
--- a number of the bytes behind some
+-- a number of the bytes after some
 number_behind : (bytes : List ℕ) (skip place n : ℕ)
     → number_at (drop skip bytes) place n ≡ number_at bytes (skip + place) n
 unfolding number_at
@@ -103,7 +104,7 @@ four_bytes bytes place fits long =
 
 -- ---- entries
 
--- the entries of the bytes behind some
+-- the entries of the bytes after some
 entries_behind : (bytes : List ℕ) (skip place n : ℕ)
     → entries_from (drop skip bytes) place n ≡ entries_from bytes (skip + place) n
 unfolding entries_from
@@ -126,15 +127,15 @@ same_entry : (worker thread count : ℕ) (e : Entry) → worker ≡ e.worker →
 same_entry worker thread count e w t k = rw (w, t, k) refl
 
 -- the entry that its bytes begin with
-entry_again : (e : Entry) (rest : List ℕ) → is_entry e ≡ true
+entry_again : (e : Entry) (rest : List ℕ) → is_journal_entry e ≡ true
     → entry_at (entry_bytes e ++ rest) 0 ≡ e
 unfolding number_at
 entry_again e rest fits =
     let worker = both (nat_le e.worker 8) _ fits in
-    let thread = both (nat_le e.thread 15) _ worker.1 in
+    let thread = both (nat_lt e.thread 16) _ worker.1 in
     let count = both (nat_le 1 e.count) _ thread.1 in
     let w = leb-true e.worker 8 worker.0 in
-    let t = leb-true e.thread 15 thread.0 in
+    let t = ltb-true e.thread 16 thread.0 in
     let k = leb-true e.count 64 count.1 in
     same_entry _ _ _ e
     (omega (arith, from_le_bytes-to_le_bytes_2 e.worker (omega (arith, w))))
@@ -158,7 +159,7 @@ entries_length [] = refl
 entries_length (e ∷ es) =
     ap length (flat_map-cons entry_bytes e es) ∙ omega (arith, entries_length es)
 
--- the bytes behind a place are a part and those behind it
+-- the bytes after a place are a part and those after it
 part_and_rest : (bytes : List ℕ) (place n next : ℕ) → place + n ≡ next
     → take n (drop place bytes) ++ drop next bytes ≡ drop place bytes
 part_and_rest bytes place n next same =
@@ -166,7 +167,7 @@ part_and_rest bytes place n next same =
     (ap (λ (k : ℕ). drop k bytes) (sym same) ∙ sym (drop-drop n place bytes))
     ∙ take-append-drop n (drop place bytes)
 
--- the bytes of an entry, and those behind them
+-- the bytes of an entry, and those after them
 entry_and_rest : (bytes : List ℕ) (place : ℕ)
     → take 2 (drop place bytes) ++ (take 2 (drop (place + 2) bytes)
     ++ (take 4 (drop (place + 4) bytes) ++ drop (place + 8) bytes)) ≡ drop place bytes
@@ -206,7 +207,7 @@ are_entries : (index : ℕ) (es : List Entry) → entry_fault index es ≡ None 
 unfolding entry_fault
 are_entries index [] none = tt
 are_entries index (e ∷ es) none =
-    let here = kept (is_entry e) (entry_fault (index + 1) es) none in
+    let here = kept (is_journal_entry e) (entry_fault (index + 1) es) none in
     (here.0, are_entries (index + 1) es here.1)
   where
     kept : (test : Bool) (others : Option JournalFault)
@@ -357,7 +358,7 @@ unfolding entries_from
 entries_count bytes zero place = refl
 entries_count bytes (suc n) place = ap suc (entries_count bytes n (place + 8))
 
--- the count tells how many bytes there are
+-- the count says how many bytes there are
 pub faultless_length : (bytes : List ℕ) → journal_fault bytes ≡ None
     → length bytes ≡ 20 + 8 * count_of bytes
 faultless_length bytes none = (has_form bytes none).0.whole

@@ -34,7 +34,7 @@ xrstor_few m sib =
 pub xrstor_many : (m sib : ℕ) → 3 ≤ xrstor_len m sib
 xrstor_many m sib = omega arith
 
--- without a SIB byte, the byte behind ModRM doesn't matter
+-- without a SIB byte, the byte after ModRM doesn't matter
 pub without_sib : (m s t : ℕ) → is_xrstor_modrm m ≡ true → has_sib m ≡ false
     → xrstor_len m s ≡ xrstor_len m t
 unfolding has_sib disp_size
@@ -86,7 +86,7 @@ present_from c a (suc n) h =
 
 -- ---- what an occurrence is
 
--- what stands behind 0F
+-- what stands after 0F
 pub data OccursAs (c : Code) (a : ℕ) (o : Found) : Type 0 where
   AsWrpkru : c (a + 1) ≡ Some 0x01 → c (a + 2) ≡ Some 0xEF
       → o ≡ record { at = a; len = 3; kind = Wrpkru } → OccursAs c a o
@@ -283,7 +283,7 @@ occurrence_same c d a o h same =
 
 -- ---- occurrences of laid bytes
 
--- an occurrence lies within so many places from base on
+-- an occurrence lies within a given number of places from base on
 pub record IsInside (base places : ℕ) (o : Found) : Type 0 where
   pub low : base ≤ o.at
   pub high : o.at + o.len ≤ base + places

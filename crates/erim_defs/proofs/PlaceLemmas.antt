@@ -11,14 +11,14 @@ use Rattle.erim_defs.specs.declared.segment.Segment.{Segment}
 use Rattle.erim_defs.specs.Inspection.Image.{Header, IsAccepted, IsPlaced, end_page, first_page}
 use Rattle.erim_defs.specs.Inspection.Image.{headers, is_apart, is_in_file, is_in_user, is_loadable}
 use Rattle.erim_defs.specs.Inspection.Image.{is_passed_over, is_ranged, loadable_segments}
-use Rattle.erim_defs.specs.Inspection.Image.{page_count, pages_of, range_fault, segments}
+use Rattle.erim_defs.specs.Inspection.Image.{page_count, header_pages, range_fault, segments}
 use Rattle.erim_defs.specs.Inspection.Image.{shared_fault, shares_page}
 use Rattle.erim_defs.proofs.FaultLemmas.{cond_fault, not_true, sound}
 use Rattle.erim_defs.proofs.ImageLemmas.{placed_from}
 
 -- with a header that lies where it may there are still few pages
 pub ranged_few : (file_length pages : ℕ) (h : Header) → pages ≤ 4080
-    → is_ranged file_length pages h ≡ true → pages + pages_of h ≤ 4080
+    → is_ranged file_length pages h ≡ true → pages + header_pages h ≤ 4080
 ranged_few file_length pages h few test =
     elim (cases_Bool (eqb h.kind 1 && not (is_passed_over h))) [
       | inl counted ↦
@@ -56,16 +56,17 @@ ranged_placed file_length pages h loads ranged =
     placed_from file_length h.segment r.0 (and_parts (is_in_user h.segment) _ r.1).0
     (ltb-true _ _ p.1)
 
-loads_pages : (h : Header) → is_loadable h ≡ true → pages_of h ≡ page_count h.segment
+loads_pages : (h : Header) → is_loadable h ≡ true → header_pages h ≡ page_count h.segment
 loads_pages h loads = rw (loads_counted h loads) refl
 
 -- the pages with one more header
-pub total_more : (h : Header) (seen : List Header) (pages : ℕ) → sum_by pages_of seen ≡ pages
-    → sum_by pages_of (h ∷ seen) ≡ pages + pages_of h
-total_more h seen pages total = sum_by-cons pages_of h seen ∙ omega (arith, total)
+pub total_more : (h : Header) (seen : List Header) (pages : ℕ) → sum_by header_pages seen ≡ pages
+    → sum_by header_pages (h ∷ seen) ≡ pages + header_pages h
+total_more h seen pages total = sum_by-cons header_pages h seen ∙ omega (arith, total)
 
 -- all segments lie where they may, and have few pages
-pub all_placed : (file_length i pages : ℕ) (seen hs : List Header) → sum_by pages_of seen ≡ pages
+pub all_placed : (file_length i pages : ℕ) (seen hs : List Header)
+    → sum_by header_pages seen ≡ pages
     → pages ≤ 4080 → range_fault file_length i seen hs ≡ None
     → All (IsPlaced file_length) (loadable_segments hs)
     × (pages + sum_by page_count (loadable_segments hs) ≤ 4080)
@@ -73,11 +74,12 @@ unfolding loadable_segments range_fault
 all_placed file_length i pages seen [] total few none =
     (λ k d below. absurd (omega arith), omega arith)
 all_placed file_length i pages seen (h ∷ hs) total few none =
-    let parts = cond_fault (is_ranged file_length (sum_by pages_of seen) h) _
+    let parts = cond_fault (is_ranged file_length (sum_by header_pages seen) h) _
     (range_fault file_length (i + 1) (h ∷ seen) hs) none in
     let ranged : is_ranged file_length pages h ≡ true = rw total at parts.0 in
-    let more : sum_by pages_of (h ∷ seen) ≡ pages + pages_of h = total_more h seen pages total in
-    let rest = all_placed file_length (i + 1) (pages + pages_of h) (h ∷ seen) hs more
+    let more : sum_by header_pages (h ∷ seen)
+    ≡ pages + header_pages h = total_more h seen pages total in
+    let rest = all_placed file_length (i + 1) (pages + header_pages h) (h ∷ seen) hs more
     (ranged_few file_length pages h few ranged) parts.1 in
     elim (cases_Bool (is_loadable h)) [
       | inl loads ↦
@@ -87,8 +89,8 @@ all_placed file_length i pages seen (h ∷ hs) total few none =
           let sum : sum_by page_count (h.segment ∷ loadable_segments hs)
           ≡ page_count h.segment + sum_by page_count (loadable_segments hs) =
           sum_by-cons page_count h.segment (loadable_segments hs) in
-          let count : pages_of h ≡ page_count h.segment = loads_pages h loads in
-          let few_all : pages + pages_of h + sum_by page_count (loadable_segments hs) ≤ 4080 =
+          let count : header_pages h ≡ page_count h.segment = loads_pages h loads in
+          let few_all : pages + header_pages h + sum_by page_count (loadable_segments hs) ≤ 4080 =
           rest.1 in
           let few_more : pages + (page_count h.segment + sum_by page_count (loadable_segments hs))
           ≤ 4080 = rw (← count) (omega (arith, few_all)) in
@@ -101,7 +103,7 @@ all_placed file_length i pages seen (h ∷ hs) total few none =
           (let P : List Segment → Type 0 = λ ss. All (IsPlaced file_length) ss
           × (pages + sum_by page_count ss ≤ 4080) in
           let e : loadable_segments (h ∷ hs) ≡ loadable_segments hs = rw other refl in
-          let few_all : pages + pages_of h + sum_by page_count (loadable_segments hs) ≤ 4080 =
+          let few_all : pages + header_pages h + sum_by page_count (loadable_segments hs) ≤ 4080 =
           rest.1 in
           subst P (sym e) (rest.0, omega (arith, few_all)))
     ]

@@ -1,26 +1,25 @@
 -- A trust note of version 1 means one domain, with the trusted key: what is closed, open, outside,
 -- safe and protected is then said by that key alone.
-use Rattle.std.proofs.Common.{◌≡◌, ◌≢◌, ◌+◌, ◌*◌, ◌&&◌, ◌||◌, not, ℕ, List, [], ◌∷◌, Bool, true}
+use Rattle.std.proofs.Common.{◌≡◌, ◌+◌, ◌&&◌, ◌||◌, not, ℕ, List, [], ◌∷◌, Bool, true}
 use Rattle.std.proofs.Common.{false}
-use Rattle.std.proofs.Common.{None, cond, eqb, refl, sym, ap, subst, ◌∙◌, arith, inl, inr, eqb-true}
+use Rattle.std.proofs.Common.{None, cond, eqb, refl, ap, subst, ◌∙◌, arith, inl, inr, eqb-true}
 use Rattle.std.specs.List.{list_any}
-use Rattle.std.proofs.lemmas.Bool.{cases_Bool, and_parts, or_parts, or_cases}
-use Rattle.erim_defs.specs.declared.found.SeqKind.{SeqKind}
-use Rattle.erim_defs.specs.declared.found.SeqKind.TheVariants.{Wrpkru, Xrstor}
+use Rattle.std.proofs.lemmas.Bool.{cases_Bool, and_parts}
+use Rattle.erim_defs.specs.declared.found.SeqKind.TheVariants.{Wrpkru}
 use Rattle.erim_defs.specs.declared.machine.Thread.{Thread}
-use Rattle.erim_defs.specs.Inspection.Trust.{TrustValue, in_text_of, is_domain, is_entry_of}
-use Rattle.erim_defs.specs.Inspection.Trust.{entry_key, pkru_of, spans, text_key, key_beside}
-use Rattle.erim_defs.specs.Inspection.Check.{check_of, check_to, closed_value, compared}
+use Rattle.erim_defs.specs.Inspection.Trust.{TrustValue, in_text_of, is_entry_of}
+use Rattle.erim_defs.specs.Inspection.Trust.{entry_key, pkru_of, spans, text_key}
+use Rattle.erim_defs.specs.Inspection.Check.{check_of, check_to, closed_value, compared_value}
 use Rattle.erim_defs.specs.Inspection.Safe.{opens_gate}
 use Rattle.erim_defs.specs.Inspection.Image.{IsAccepted, Record, has_domains, image_trust}
 use Rattle.erim_defs.specs.Inspection.Image.{is_record}
-use Rattle.erim_defs.specs.Inspection.Image.{is_text, keys_of, marks, record_fault, records}
+use Rattle.erim_defs.specs.Inspection.Image.{is_text, marks, record_fault, records}
 use Rattle.erim_defs.specs.Inspection.Image.{span_of}
-use Rattle.erim_defs.specs.Inspection.Image.{spans_of, is_keyed_record, is_mark}
+use Rattle.erim_defs.specs.Inspection.Image.{is_keyed_record, is_mark}
 use Rattle.std.specs.Int.{w32, to_le_bytes}
 use Rattle.std.proofs.Common.{◌++◌, zero, suc, ne_eqb}
 use Rattle.erim_defs.specs.Machine.Access.{opens}
-use Rattle.erim_defs.specs.Machine.Domains.{is_denied, is_set_but, opened}
+use Rattle.erim_defs.specs.Machine.Domains.{is_denied, is_set_but, opened_domains}
 use Rattle.erim_defs.specs.Machine.State.{is_open, is_outside}
 use Rattle.erim_defs.proofs.FaultLemmas.{cond_fault, sound}
 use Rattle.erim_defs.proofs.RecordLemmas.{plain_key, plain_one, covers, text_key_at}
@@ -46,8 +45,8 @@ or_false true = refl
 or_false false = refl
 
 plain_opened : (trust : TrustValue) (p : ℕ) → IsPlain trust
-    → opened trust p ≡ false ∷ opens p 1 ∷ false ∷ false ∷ false ∷ []
-unfolding opened
+    → opened_domains trust p ≡ false ∷ opens p 1 ∷ false ∷ false ∷ false ∷ []
+unfolding opened_domains
 plain_opened trust p h = rw (h.domains, h.integrity) refl
 
 pub plain_is_open : (trust : TrustValue) (p : ℕ) → IsPlain trust → is_open trust p ≡ opens p 1
@@ -73,7 +72,7 @@ pub plain_gate : (trust : TrustValue) (next : ℕ) → IsPlain trust
 plain_gate trust next h = rw h.strict refl
 
 pub plain_compared : (trust : TrustValue) (next : ℕ) → IsPlain trust
-    → compared trust next ≡ 0x55555554
+    → compared_value trust next ≡ 0x55555554
 plain_compared trust next h =
     ap (λ (b : Bool). pkru_of trust (cond b (entry_key trust next) 0)) h.strict
     ∙ plain_closed trust h
@@ -99,9 +98,9 @@ plain_denied trust p key h = by key
     by (suc (suc (suc (suc (suc k))))) =
         rw (h.domains, ne_eqb (suc (suc (suc (suc (suc k))))) 1 (omega arith)) refl
 
--- the check of the gate out is the one behind a WRPKRU
+-- the check of the gate out is the one after a WRPKRU
 pub check_is : (trust : TrustValue) (next : ℕ) → check_of trust Wrpkru next
-    ≡ check_to (compared trust next)
+    ≡ check_to (compared_value trust next)
 unfolding check_of
 check_is trust next = refl
 

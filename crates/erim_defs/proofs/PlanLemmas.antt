@@ -44,7 +44,7 @@ use Rattle.erim_defs.specs.Machine.Meaning.{plan_call, plan_jmp_to, plan_call_to
 use Rattle.erim_defs.specs.Machine.Meaning.{plan_xadd, plan_cmpxchg, plan_rdpkru, write_outcome}
 use Rattle.erim_defs.specs.Machine.Meaning.{write_back, plan_wrpkru, plan_xrstor, on_numbers}
 use Rattle.erim_defs.specs.Machine.Meaning.{is_header, restore_pkru}
-use Rattle.erim_defs.specs.Machine.Step.{is_free}
+use Rattle.erim_defs.specs.Machine.Step.{writes_pkru}
 use Rattle.erim_defs.specs.Bits.{has_bit}
 use Rattle.erim_defs.specs.Inspection.Check.{pkru_bit}
 
@@ -331,7 +331,7 @@ xrstor_plain m len t n =
     xrstor_all (λ new v. Plain t new) m len t (λ header. rw n (moved_plain t _ _))
 
 -- one line a kind
-plan_plain : (insn : Insn) (len : ℕ) (t : Thread) → is_free insn t ≡ false
+plan_plain : (insn : Insn) (len : ℕ) (t : Thread) → writes_pkru insn t ≡ false
     → AllPlain t (plan insn len t)
 unfolding plan
 plan_plain (Alu op w dst src lock) len t n = alu_plain op w dst src len t
@@ -376,12 +376,12 @@ pub record Goes (insn : Insn) (len : ℕ) (t new : Thread) : Type 0 where
   pub regs : length new.regs ≡ length t.regs
   pub origin : new.origin ≡ t.origin
   pub live : new.live ≡ t.live
-  pub pkru : is_free insn t ≡ false → new.pkru ≡ t.pkru
-  pub next : is_free insn t ≡ true → new.rip ≡ (t.rip + len) % 2 ^ 64
-  pub same : is_free insn t ≡ true → new.regs ≡ t.regs
+  pub pkru : writes_pkru insn t ≡ false → new.pkru ≡ t.pkru
+  pub next : writes_pkru insn t ≡ true → new.rip ≡ (t.rip + len) % 2 ^ 64
+  pub same : writes_pkru insn t ≡ true → new.regs ≡ t.regs
   pub value : insn ≡ Wrpkru → new.pkru ≡ eax t
 
-plain_goes : (insn : Insn) (len : ℕ) (t new : Thread) → is_free insn t ≡ false → insn ≢ Wrpkru
+plain_goes : (insn : Insn) (len : ℕ) (t new : Thread) → writes_pkru insn t ≡ false → insn ≢ Wrpkru
     → Plain t new → Goes insn len t new
 plain_goes insn len t new f n p = record {
   regs = p.regs;
@@ -439,7 +439,8 @@ done_goes Wrpkru len t new w seen bytes pkru rip h =
     (wrpkru_goes len t) h
 done_goes (Xrstor m) len t new w seen bytes pkru rip h =
     elim (cases_Bool (has_bit (eax t) pkru_bit)) [
-      | inl asked ↦ does_gives (λ x v. Goes (Xrstor m) len t x) (plan (Xrstor m) len t) seen bytes pkru
+      | inl asked ↦ does_gives (λ x v. Goes (Xrstor m) len t x) (plan
+          (Xrstor m) len t) seen bytes pkru
           rip
           new w (xrstor_goes m len t asked) h
       | inr not ↦ plain_goes (Xrstor m) len t new not (λ e. absurd cc)

@@ -12,8 +12,8 @@ use Rattle.erim_defs.specs.declared.segment.Segment.{Segment}
 use Rattle.erim_defs.specs.declared.trust.Span.{Span}
 use Rattle.erim_defs.specs.Inspection.Image.{data_fault, holds_data, holds_heap, is_placed_data}
 use Rattle.erim_defs.specs.Inspection.Image.{is_placed_entry, is_placed_text, Record, all_pages}
-use Rattle.erim_defs.specs.Inspection.Image.{entry_fault, holds_entry, holds_text, has_no_range}
-use Rattle.erim_defs.specs.Inspection.Image.{is_mark, is_new_mark, keys_of, is_data}
+use Rattle.erim_defs.specs.Inspection.Image.{entry_fault, holds_text, has_no_range}
+use Rattle.erim_defs.specs.Inspection.Image.{is_new_mark, keys_of, is_data}
 use Rattle.erim_defs.specs.Inspection.Trust.{key_beside}
 use Rattle.erim_defs.specs.Machine.Start.{key_in}
 use Rattle.erim_defs.specs.Inspection.Image.{is_entry_record, is_page_of, is_range, is_record}
@@ -24,7 +24,7 @@ use Rattle.erim_defs.proofs.FaultLemmas.{cond_fault, not_true}
 
 -- ---- records of trusted text have whole pages
 
--- a test of each of so many pages holds of one of them
+-- a test of each of a given number of pages holds of one of them
 all_pages_at : (test : ℕ → Bool) (first n q : ℕ) → all_pages test first n ≡ true → first ≤ q
     → q < first + n → test q ≡ true
 unfolding all_pages
@@ -148,7 +148,7 @@ text_of_records v index place ss seen (r ∷ rs) q h lies there =
 
 -- ---- ranges of records are apart
 
--- what is covered by a record so far is no address of one behind it
+-- what is covered by a record so far is no address of one after it
 seen_apart : (v : Bool) → (P Q : Record → Bool) (index : ℕ) (seen rs : List Record) (a : ℕ)
     → ((r : Record) → P r ≡ true → is_range r ≡ true)
     → ((r : Record) → Q r ≡ true → has_no_range r ≡ false)

@@ -22,7 +22,7 @@ fits_step c a i check lt allowed e =
     let next : suc (a + i) ≡ a + suc i = omega arith in
     rw (more, drop-cons check i 0, e, next) refl
 
--- behind the last byte nothing is left to compare
+-- after the last byte nothing is left to compare
 pub fits_nothing : (c : Code) (a i : ℕ) (check : List ℕ) → length check ≤ i
     → fits c a (drop i check) ≡ true
 unfolding fits
@@ -35,7 +35,7 @@ unfolding check_of
 length-check_of trust Wrpkru next = lit≤ tt
 length-check_of trust Xrstor next = lit≤ tt
 
--- an entry behind an occurrence makes it safe
+-- an entry after an occurrence makes it safe
 pub safe_by_gate : (trust : TrustValue) (c : Code) (o : Found) (next : ℕ) → next ≡ o.at + o.len
     → opens_gate trust o.kind next ≡ true → is_safe trust c o ≡ true
 safe_by_gate trust c o next e gate = let opened : opens_gate trust o.kind (o.at + o.len) ≡ true =

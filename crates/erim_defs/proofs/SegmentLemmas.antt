@@ -9,7 +9,7 @@ use Rattle.std.proofs.lemmas.Bool.{both_ways, false_from_ne_true}
 use Rattle.erim_defs.specs.declared.segment.Segment.{Segment}
 use Rattle.erim_defs.specs.Inspection.Image.{Header, code_of, end_page, first_page, holds_text}
 use Rattle.erim_defs.specs.Inspection.Image.{is_executable, is_in_file, is_in_user, is_loadable}
-use Rattle.erim_defs.specs.Inspection.Image.{is_page_of, is_ranged, loadable_segments, pages_of}
+use Rattle.erim_defs.specs.Inspection.Image.{is_page_of, is_ranged, loadable_segments, header_pages}
 use Rattle.erim_defs.specs.Inspection.Image.{is_writable, range_fault, shared_fault, shares_page}
 use Rattle.erim_defs.specs.Inspection.Image.{touches}
 use Rattle.erim_defs.specs.Machine.Start.{asked_in, asked_of, byte_in, is_stack}
@@ -74,13 +74,14 @@ pub users : (file index : ℕ) (seen hs : List Header) (q : ℕ) → range_fault
 unfolding range_fault loadable_segments
 users file index seen [] q h there = absurd cc
 users file index seen (x ∷ hs) q h there =
-    let k = cond_fault (is_ranged file (sum_by pages_of seen) x) _
+    let k = cond_fault (is_ranged file (sum_by header_pages seen) x) _
     (range_fault file (index + 1) (x ∷ seen) hs) h in
     elim (cases_Bool (is_loadable x)) [
       | inr off ↦ users file (index + 1) (x ∷ seen) hs q k.1 (rw off at there)
       | inl on ↦ elim (or_cases (touches x.segment q) (has_page (loadable_segments hs) q)
           (rw on at there)) [
-            | inl here ↦ user_page x.segment q (loadable_user file (sum_by pages_of seen) x on k.0)
+            | inl here ↦ user_page x.segment q (loadable_user file
+                (sum_by header_pages seen) x on k.0)
                 here
             | inr later ↦ users file (index + 1) (x ∷ seen) hs q k.1 later
           ]
@@ -97,7 +98,7 @@ apart_pages s (t ∷ ts) q apart there =
       | inr later ↦ apart_pages s ts q p.1 later
     ]
 
--- a page of a segment so far is no page of those behind
+-- a page of a segment so far is no page of those after
 page_once : (index : ℕ) (seen hs : List Header) (q : ℕ) → shared_fault index seen hs ≡ None
     → has_page (loadable_segments seen) q ≡ true → has_page (loadable_segments hs) q ≡ false
 unfolding loadable_segments
@@ -167,7 +168,7 @@ text_page_here image s ss q on exec sealed = record {
   code = λ a e. (let here : touches s (a / 4096) ≡ true = rw e on in rw (here, exec) refl);
 }
 
--- or by those behind it
+-- or by those after it
 text_page_later : (image : List ℕ) (s : Segment) (ss : List Segment) (q : ℕ) → touches s q ≡ false
     → IsTextPage image ss q → IsTextPage image (s ∷ ss) q
 text_page_later image s ss q off w = record {

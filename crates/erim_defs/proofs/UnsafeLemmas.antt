@@ -165,9 +165,9 @@ first_is trust c (Some o) is =
     sym (first_below_at top (unsafe_at trust c) o.at o (omega (arith, top_is, is.1)) is.2
     (λ a before. is.3 a (omega arith) before))
 
--- ---- a walk, from each to the next behind it
+-- ---- a walk, from each to the next after it
 
--- the list below the address behind what was found has it as its last element
+-- the list below the address after what was found has it as its last element
 pub walk_next : (trust : TrustValue) (c : Code) (from : ℕ) (o : Found)
     → IsFirstUnsafe trust c from (2 ^ 47) (Some o)
     → list_below (o.at + 1) (unsafe_at trust c) ≡ list_below from (unsafe_at trust c) ++ o ∷ []

@@ -1,12 +1,12 @@
 -- What holds after an access that stops: at a fault that ends the process, or at a write fault.
-use Rattle.std.proofs.Common.{◌≡◌, ◌/◌, ℕ, Option, Some, None, Bool, true, false, refl, inl, inr}
+use Rattle.std.proofs.Common.{◌≡◌, ◌/◌, ℕ, Option, Some, None, true, false, refl, inl, inr}
 use Rattle.std.proofs.lemmas.Bool.{cases_Bool}
 use Rattle.erim_defs.specs.declared.machine.Rights.{Rights}
 use Rattle.erim_defs.specs.declared.machine.Access.{Access}
 use Rattle.erim_defs.specs.declared.machine.Access.TheVariants.{Fault, Missing}
 use Rattle.erim_defs.specs.declared.machine.Cause.TheVariants.{Write as WriteCause}
 use Rattle.erim_defs.specs.Machine.MapCalls.{is_pinned}
-use Rattle.erim_defs.specs.Machine.Pages.{taken_back, with_value_at}
+use Rattle.erim_defs.specs.Machine.Pages.{taken_back_rights, with_value_at}
 use Rattle.erim_defs.specs.Machine.State.{State}
 use Rattle.erim_defs.specs.Machine.Step.{Runner, after_fault, after_stop, after_write_fault}
 use Rattle.erim_defs.specs.Machine.Step.{is_write_fault}
@@ -23,7 +23,7 @@ pub write_either : (P : State → Type 0) (o : Option Rights) (x : ℕ) (t : Run
     → P (after_fault (Fault WriteCause x) t s) → P s
     → ((r : Rights) → o ≡ Some r → is_write_fault r t.thread.pkru ≡ true
     → is_pinned s.threads (x / 4096) ≡ false
-    → P (record s { rights = with_value_at s.rights (x / 4096) (Some (taken_back r)) }))
+    → P (record s { rights = with_value_at s.rights (x / 4096) (Some (taken_back_rights r)) }))
     → P (after_write_fault o x t s)
 write_either P None x t s f same back = f
 write_either P (Some r) x t s f same back =

@@ -17,5 +17,10 @@ pub mod ThreadCalls
 pub mod HeapCalls
 pub mod Calls
 pub mod Step
+pub mod StepAnswers
+pub mod StartFaults
 pub mod Replay
+pub mod ReplayFaults
+pub mod TimeSlices
 pub mod Isolation
+pub mod Lawful

@@ -1,5 +1,5 @@
--- What rewriting rests on: instructions as they stand, runs, copies, their layout, the new file, and
--- what its addresses stand for.
+-- What rewriting rests on: instructions as they stand, regions, copies, their layout, the new file,
+-- and what its addresses stand for.
 pub mod Standing
 pub mod Sites
 pub mod Copies

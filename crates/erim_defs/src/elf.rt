@@ -4,7 +4,7 @@
 /// How many bytes the file header takes (e_ehsize).
 pub const FILE_HEADER_SIZE: usize = 64;
 
-// The places of the bytes of e_ident behind the magic number.
+// The places of the bytes of e_ident after the magic number.
 
 /// 32 or 64 bits.
 pub const EI_CLASS: usize = 4;
@@ -104,7 +104,7 @@ pub const PF_W: u32 = 2;
 /// May be read.
 pub const PF_R: u32 = 4;
 
-// Notes: namesz, descsz and type of 4 bytes each, and behind them name and desc.
+// Notes: namesz, descsz and type of 4 bytes each, and after them name and desc.
 
 /// How many bytes stand before the name.
 pub const NOTE_HEADER_SIZE: usize = 12;

@@ -196,6 +196,6 @@ pub struct Fields {
 pub enum Stop {
     /// Nothing that begins so is an instruction.
     Undefined,
-    /// So many bytes are missing at the least.
+    /// A given number of bytes are missing at the least.
     Short(u8),
 }

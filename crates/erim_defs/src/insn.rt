@@ -264,7 +264,7 @@ pub enum Insn {
 /// What bytes begin with.
 #[derive(Clone, Copy)]
 pub enum Decoded {
-    /// An instruction of so many bytes, `skip` of them before its opcode.
+    /// An instruction of a given number of bytes, `skip` of them before its opcode.
     Insn { insn: Insn, len: u8, skip: u8 },
     /// No instruction, whatever follows.
     Undefined,
@@ -275,7 +275,7 @@ pub enum Decoded {
 /// What stands at an address of a code.
 #[derive(Clone, Copy)]
 pub enum FetchOutcome {
-    /// An instruction of so many bytes, `skip` of them before its opcode.
+    /// An instruction of a given number of bytes, `skip` of them before its opcode.
     Runs { insn: Insn, len: u8, skip: u8 },
     /// More bytes are needed, from this absent address on.
     Need { addr: u64 },

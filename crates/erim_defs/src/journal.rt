@@ -5,25 +5,34 @@ ghost use Rattle.erim_defs.specs.Output.Journal.{OneJournal};
 ghost use Rattle.erim_defs.specs.declared.journal.JournalFault.TheVariants.{Memory};
 
 use std::alloc::{AllocError, AllocFailed};
+use thiserror::Error;
 
 /// The first fault of the bytes of a journal, in the order in which they are looked for.
-#[derive(Drop)]
+#[derive(Debug, Drop, Error)]
 pub enum JournalFault {
     /// The bytes end within the header or the entries; `at` is how many there are.
+    #[error("the journal ends too early, at {at}")]
     Short { at: u64 },
     /// They don't begin with the mark `ERIMJNL1`.
+    #[error("the mark is another")]
     Magic,
     /// The budget isn't 1 to 4,194,304.
+    #[error("the budget is not 1 to 4,194,304")]
     Budget,
     /// The frames aren't 64 to 4,096.
+    #[error("the frames are not 64 to 4,096")]
     Frames,
     /// There are more entries than steps of the budget.
+    #[error("more entries than steps")]
     Count,
-    /// Bytes stand behind the last entry, from `at` on.
+    /// Bytes stand after the last entry, from `at` on.
+    #[error("bytes after the last entry, at {at}")]
     Trailing { at: u64 },
     /// The first entry with a worker above 8, a thread above 15, or a count that isn't 1 to 64.
+    #[error("entry {index} is none")]
     BadEntry { index: u32 },
     /// Memory ran out.
+    #[error("out of memory")]
     Memory,
 }
 

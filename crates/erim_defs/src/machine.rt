@@ -3,7 +3,7 @@
 
 ghost use Rattle.std.specs.Prelude.{◌≡◌, ◌<◌};
 ghost use Rattle.erim_defs.specs.Machine.Pages.{asks_exec, asks_write, published_rights};
-ghost use Rattle.erim_defs.specs.Machine.Pages.{taken_back};
+ghost use Rattle.erim_defs.specs.Machine.Pages.{taken_back_rights};
 ghost use Rattle.erim_defs.specs.Machine.Step.{is_write_fault};
 ghost use Rattle.erim_defs.specs.Machine.Start.{unpublished_rights};
 
@@ -41,7 +41,7 @@ impl Rights {
     }
 
     /// The rights of a page that asks these protection bits, below 8, and isn't published.
-    pub fn unpublished(asked: u8, key: u8) -> Rights
+    pub fn unpublished_rights(asked: u8, key: u8) -> Rights
         ensures { result ≡ unpublished_rights asked key }
     {
         Rights {
@@ -62,8 +62,8 @@ impl Rights {
     }
 
     /// The rights of the page once a write took its publication back.
-    pub fn taken_back(&self) -> Rights
-        ensures { result ≡ taken_back self.now }
+    pub fn taken_back_rights(&self) -> Rights
+        ensures { result ≡ taken_back_rights self.now }
     {
         Rights {
             exec: false,
@@ -73,7 +73,7 @@ impl Rights {
     }
 
     /// The rights of the page once it is published: it can be fetched, and isn't writable.
-    pub fn published(&self) -> Rights
+    pub fn published_rights(&self) -> Rights
         ensures { result ≡ published_rights self.now }
     {
         Rights {
@@ -115,7 +115,8 @@ pub struct Thread {
     pub flags: Flags,
     /// What its protection keys permit (SDM volume 3A, "Protection keys").
     pub pkru: u32,
-    /// The sequence by which it came to be open where it isn't at home, and whose check holds it.
+    /// The last WRPKRU or XRSTOR that it executed, as long as it is open and not at home; a new
+    /// thread has its maker's.
     pub origin: Option<Found>,
     /// Has it not ended yet?
     pub live: bool,
@@ -171,7 +172,8 @@ pub enum End {
     },
 }
 
-/// The first step by which a thread left trusted text open and other than by a gate.
+/// The first step by which a thread that was open and at home is open and not at home, but for the
+/// steps of instructions that write PKRU.
 #[derive(Clone, Copy, PartialEq, Eq)]
 pub struct Escape {
     /// The step, counted from 1.
@@ -181,7 +183,7 @@ pub struct Escape {
     pub rip: u64,
 }
 
-/// So many steps of a thread, made by a worker.
+/// A given number of steps of a thread, made by a worker.
 #[derive(Clone, Copy, PartialEq, Eq)]
 pub struct Entry {
     pub worker: u16,

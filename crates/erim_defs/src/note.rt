@@ -10,7 +10,7 @@ pub const DOMAINS_VERSION: u32 = 2;
 /// The place of the count in the desc.
 pub const NOTE_COUNT: usize = 4;
 
-/// How many bytes version and count take. The items stand behind them.
+/// How many bytes version and count take. The items stand after them.
 pub const NOTE_ITEMS: u64 = 8;
 
 /// The type of the trust note, of the name `ERIM`.

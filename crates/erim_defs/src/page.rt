@@ -21,7 +21,7 @@ pub const USER_END: u64 = 0x8000_0000_0000;
 /// The first page of the stack, at 0x7FFE0000.
 pub const STACK_PAGE: u64 = 0x7FFE0;
 
-/// The page behind the stack's last.
+/// The page after the stack's last.
 pub const STACK_END_PAGE: u64 = 0x7FFF0;
 
 /// The stack pointer at the start, 16 below the end of the stack.

@@ -4,7 +4,7 @@
 /// The number of a call, and its result; in its low half, PKRU for WRPKRU.
 pub const RAX: u8 = 0;
 
-/// Zero for WRPKRU; behind SYSCALL, the address of the next instruction.
+/// Zero for WRPKRU; after SYSCALL, the address of the next instruction.
 pub const RCX: u8 = 1;
 
 /// Zero for WRPKRU; the third argument of a call.
@@ -25,5 +25,5 @@ pub const RDI: u8 = 7;
 /// The fourth argument of a call.
 pub const R10: u8 = 10;
 
-/// Behind SYSCALL, the flags.
+/// After SYSCALL, the flags.
 pub const R11: u8 = 11;

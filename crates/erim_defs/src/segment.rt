@@ -11,7 +11,7 @@ use crate::elf::{PF_W, PF_X};
 use crate::page::{LOWEST_ADDRESS, PAGE_SIZE, STACK_END_PAGE, STACK_PAGE, USER_END};
 use crate::trust::Span;
 
-/// A loadable segment, as its program header tells it (ELF-64, "Program header").
+/// A loadable segment, as its program header gives it (ELF-64, "Program header").
 #[derive(Clone, Copy, PartialEq, Eq)]
 pub struct Segment {
     /// The address of its first byte.
@@ -48,8 +48,8 @@ impl Segment {
         self.vaddr / PAGE_SIZE
     }
 
-    /// The page behind the last that it touches. The sum of address and size may pass 2^64, so
-    /// whole pages and rests are added apart.
+    /// The page after the last that it touches. The sum of address and size may pass 2^64, so whole
+    /// pages and rests are added apart.
     pub fn end_page(&self) -> u64
         ensures { result ≡ end_page self.now }
     {
@@ -98,8 +98,8 @@ impl Segment {
         self.is_executable() && self.has_in_file(function)
     }
 
-    /// Does the file part lie in a file of so many bytes? The sum of offset and size may pass
-    /// 2^64, so they are compared by a difference.
+    /// Does the file part lie in a file of a given number of bytes? The sum of offset and size may
+    /// pass 2^64, so they are compared by a difference.
     pub fn is_in_file(&self, file_length: u64) -> bool
         ensures { result ≡ is_in_file file_length self.now }
     {

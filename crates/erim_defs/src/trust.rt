@@ -2,9 +2,10 @@
 //! its own, and which of them a PKRU opens.
 
 ghost use Rattle.std.specs.Prelude.{◌≡◌, ◌≤◌, ◌<◌, get_or, not, if◌then◌else◌};
-ghost use Rattle.erim_defs.specs.Inspection.Check.{closed_value, compared};
+ghost use Rattle.erim_defs.specs.Inspection.Check.{closed_value, compared_value};
 ghost use Rattle.erim_defs.specs.Machine.Access.{opens, opens_write};
-ghost use Rattle.erim_defs.specs.Machine.Domains.{is_at_home, is_denied, is_set_but, opened};
+ghost use Rattle.erim_defs.specs.Machine.Domains.{is_at_home, is_denied, is_set_but};
+ghost use Rattle.erim_defs.specs.Machine.Domains.{opened_domains};
 ghost use Rattle.erim_defs.specs.Machine.Domains.{opens_domain};
 ghost use Rattle.erim_defs.specs.Inspection.Trust.{TrustValue, entry_key, in_text_of, is_domain};
 ghost use Rattle.erim_defs.specs.Inspection.Trust.{is_entry_of, is_integrity, key_beside, key_bits};
@@ -117,11 +118,11 @@ impl Trust {
     }
 
     // AD and WD of a key, where one domain alone is opened.
-    fn key_bits(&self, opened: u8, key: u8) -> u32
+    fn key_bits(&self, opened_domains: u8, key: u8) -> u32
         requires { key < 5 }
-        ensures { result ≡ key_bits self.now opened key }
+        ensures { result ≡ key_bits self.now opened_domains key }
     {
-        if key == opened {
+        if key == opened_domains {
             0
         } else if self.integrity[usize::from(key)] {
             2
@@ -132,14 +133,14 @@ impl Trust {
 
     /// The PKRU that opens one domain alone, or none where it is 0.
     #[tactic(auto, unfolding(crate::specs::Inspection::Trust::pkru_of))]
-    pub fn pkru_of(&self, opened: u8) -> u32
-        ensures { result ≡ pkru_of self.now opened }
+    pub fn pkru_of(&self, opened_domains: u8) -> u32
+        ensures { result ≡ pkru_of self.now opened_domains }
     {
         0x5555_5400
-            + 4 * self.key_bits(opened, 1)
-            + 16 * self.key_bits(opened, 2)
-            + 64 * self.key_bits(opened, 3)
-            + 256 * self.key_bits(opened, 4)
+            + 4 * self.key_bits(opened_domains, 1)
+            + 16 * self.key_bits(opened_domains, 2)
+            + 64 * self.key_bits(opened_domains, 3)
+            + 256 * self.key_bits(opened_domains, 4)
     }
 
     /// The PKRU of a closed thread.
@@ -180,7 +181,7 @@ impl Trust {
     /// Does a PKRU open a domain other than this key?
     #[tactic(auto, using(crate::proofs::DomainLemmas::set_but_flags))]
     pub fn opens_other(&self, pkru: u32, own: u8) -> bool
-        ensures { result ≡ is_set_but own (opened self.now pkru) }
+        ensures { result ≡ is_set_but own (opened_domains self.now pkru) }
     {
         (own != 1 && self.opens(pkru, 1))
             || (own != 2 && self.opens(pkru, 2))
@@ -198,7 +199,7 @@ impl Trust {
 
     /// Does a PKRU open no domain?
     pub fn is_closed(&self, pkru: u32) -> bool
-        ensures { result ≡ not (is_set_but 0 (opened self.now pkru)) }
+        ensures { result ≡ not (is_set_but 0 (opened_domains self.now pkru)) }
     {
         !self.opens_other(pkru, 0)
     }
@@ -232,8 +233,8 @@ impl Trust {
     }
 
     /// What the check after a WRPKRU compares with; the address is the one after the WRPKRU.
-    pub fn compared(&self, next: u64) -> u32
-        ensures { result ≡ compared self.now next }
+    pub fn compared_value(&self, next: u64) -> u32
+        ensures { result ≡ compared_value self.now next }
     {
         self.pkru_of(if self.strict { self.entry_key(next) } else { 0 })
     }

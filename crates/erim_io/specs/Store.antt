@@ -14,12 +14,12 @@ Name = List ℕ
 abbrev pub Files : Type 0
 Files = Name → Option (List ℕ)
 
--- the answer of the store under a name; a store that tells nothing answers anything
+-- the answer of the store under a name; a store that says nothing answers anything
 abbrev pub Holds : Option Files → Name → Option (List ℕ) → Type 0
 Holds None name bytes = ⊤
 Holds (Some files) name bytes = files name ≡ bytes
 
--- so many bytes are held under a name
+-- a given number of bytes are held under a name
 abbrev pub HoldsLength : Option Files → Name → ℕ → Type 0
 HoldsLength None name n = ⊤
 HoldsLength (Some files) name n = IsSomeAnd (files name) (λ bytes. length bytes ≡ n)
@@ -44,15 +44,15 @@ fails_save (Err saves.Failed) = true
 fails_save (Err saves.Memory) = false
 
 -- the names of the failed calls after one more call
-abbrev pub noted : Bool → Name → List Name → List Name
-noted false name names = names
-noted true name names = names ++ name ∷ []
+abbrev pub with_noted_name : Bool → Name → List Name → List Name
+with_noted_name false name names = names
+with_noted_name true name names = names ++ name ∷ []
 
 abbrev pub noted_load : Result (Unit {0}) LoadFault → Name → List Name → List Name
-noted_load result name names = noted (fails_load result) name names
+noted_load result name names = with_noted_name (fails_load result) name names
 
 abbrev pub noted_save : Result (Unit {0}) SaveFault → Name → List Name → List Name
-noted_save result name names = noted (fails_save result) name names
+noted_save result name names = with_noted_name (fails_save result) name names
 
 -- the files with these bytes under a name
 abbrev pub with_file : Name → List ℕ → Files → Files

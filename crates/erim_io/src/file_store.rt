@@ -140,6 +140,6 @@ fn grown(limit: u64) -> LoadFault
 {
     match limit.checked_add(1) {
         Some(length) => LoadFault::TooLarge { length },
-        None => LoadFault::Memory, // no memory holds so many bytes
+        None => LoadFault::Memory, // no memory holds a given number of bytes
     }
 }

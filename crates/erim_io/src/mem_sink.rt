@@ -38,7 +38,8 @@ impl Model for MemSink {
 }
 
 impl MemSink {
-    /// A sink for so many bytes, of which the calls with the given numbers, counted from 0, fail.
+    /// A sink for a given number of bytes, of which the calls with the given numbers, counted from
+    /// 0, fail.
     pub fn new(alloc: Global, failing: Vec<u32>, room: u32) -> Result<MemSink, NoMemory>
         ensures { IfOk result (λ sink. sink ≡ record {
           written = [];

@@ -1,7 +1,7 @@
 //! The names of failed calls. The room for a note is taken first, so that a fault is always noted.
 
 ghost use Rattle.std.specs.Prelude.{◌≡◌, ◌<◌, map, vec_len, vec_capacity, string_bytes, IfOk, OnOk};
-ghost use Rattle.erim_io.specs.Store.{noted};
+ghost use Rattle.erim_io.specs.Store.{with_noted_name};
 
 use std::alloc::{AllocError, Global};
 
@@ -23,7 +23,7 @@ pub(crate) fn room_to_note(
 pub(crate) fn note_failed(names: &mut Vec<String>, note: String, failed: bool)
     requires room { vec_len names.old < vec_capacity names.old }
     ensures { let old = map string_bytes names.old.items in
-        map string_bytes names.new.items ≡ noted failed (string_bytes note) old }
+        map string_bytes names.new.items ≡ with_noted_name failed (string_bytes note) old }
 {
     if failed {
         let _ = names.push(note);

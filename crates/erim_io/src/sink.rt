@@ -9,9 +9,9 @@ ghost use Rattle.erim_io.specs.Sink.{HasRisen, AppendsPart};
 #[derive(Clone, Copy, Debug, PartialEq, Eq)]
 pub struct Failed;
 
-/// Where output goes. A put that fails is counted; `written` is what the sink tells of its bytes.
+/// Where output goes. A put that fails is counted; `written` is what the sink says of its bytes.
 pub trait Sink {
-    // What was written, where the sink tells it.
+    // What was written, where the sink says it.
     ghost written: { Self → Option (List ℕ) };
 
     // How many puts failed.

@@ -53,10 +53,9 @@ impl<T: Drop> From<AllocFailed<T>> for SaveFault {
     }
 }
 
-/// Files by name. A load or a save that fails is noted.
-/// `held` is what the store tells of its files.
+/// Files by name. A load or a save that fails is noted. `held` is what the store says of its files.
 pub trait Store {
-    // What is held under each name, where the store tells it.
+    // What is held under each name, where the store says it.
     ghost held: { Self → Option Files };
 
     // The names of the failed loads, in order.

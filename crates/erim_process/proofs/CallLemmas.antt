@@ -12,12 +12,12 @@ use Rattle.erim_defs.specs.Machine.Registers.{with_register}
 use Rattle.erim_defs.specs.Machine.State.{Setup, State, trust_of, with_origin}
 use Rattle.erim_defs.specs.Machine.Step.{Runner, after_call, after_move}
 use Rattle.erim_defs.specs.Machine.ThreadCalls.{new_thread}
-use Rattle.map_calls.specs.KeyAnswers.{keyed}
-use Rattle.page_store.specs.Answers.{rights_in}
+use Rattle.map_calls.specs.KeyAnswers.{key_answer}
+use Rattle.erim_defs.specs.Machine.Access.{rights_in}
 use Rattle.page_store.specs.declared.memory.Memory.{Ghosts}
-use Rattle.sys_calls.specs.Answers.{made, wrote}
+use Rattle.sys_calls.specs.Answers.{clone_answer, wrote}
 use Rattle.erim_process.specs.declared.machine.Machine.{Machine}
-use Rattle.erim_process.specs.Machine.{machine_state, returned, SamePages}
+use Rattle.erim_process.specs.Machine.{machine_state, rax_of, SamePages}
 
 -- a machine whose pages alone were looked at is the same state
 pub same_machine : {P : Type 0} (g : Ghosts P) (setup : Setup) (m m' : Machine P)
@@ -41,8 +41,8 @@ goes_on r t value = after_move (record {
 -- a call on keys
 pub key_call : {P : Type 0} (g : Ghosts P) (setup : Setup) (m : Machine P) (keys : Keys) (pkru : ℕ)
     (r : Runner) (t : Thread) (outcome : Result ℕ ℕ) (value : ℕ) (call : CallResult)
-    → call ≡ keyed (machine_state g setup m) t keys pkru outcome
-    → OnErr outcome (keys ≡ m.keys) → OnErr outcome (pkru ≡ t.pkru) → value ≡ returned outcome
+    → call ≡ key_answer (machine_state g setup m) t keys pkru outcome
+    → OnErr outcome (keys ≡ m.keys) → OnErr outcome (pkru ≡ t.pkru) → value ≡ rax_of outcome
     → goes_on r (record t { pkru = pkru }) value (machine_state g setup (record m { keys = keys }))
     ≡ after_call call r t (machine_state g setup m)
 key_call g setup m keys pkru r t (Ok v) value call told kept same e = rw (told, e) refl
@@ -54,7 +54,7 @@ pub write_call : {P : Type 0} (g : Ghosts P) (setup : Setup) (m : Machine P) (pa
     (output : List ℕ) (r : Runner) (t : Thread) (outcome : Result ℕ ℕ) (value : ℕ)
     (call : CallResult)
     → call ≡ wrote (machine_state g setup m) t output outcome → OnErr outcome (output ≡ m.output)
-    → SamePages g m.pages pages → value ≡ returned outcome
+    → SamePages g m.pages pages → value ≡ rax_of outcome
     → goes_on r t value (machine_state g setup (record m { pages = pages; output = output }))
     ≡ after_call call r t (machine_state g setup m)
 write_call g setup m pages output r t outcome value call told kept same e =
@@ -63,21 +63,21 @@ write_call g setup m pages output r t outcome value call told kept same e =
     ∙ by_outcome outcome told kept e
   where
     by_outcome : (o : Result ℕ ℕ) → call ≡ wrote (machine_state g setup m) t output o
-        → OnErr o (output ≡ m.output) → value ≡ returned o
+        → OnErr o (output ≡ m.output) → value ≡ rax_of o
         → goes_on r t value (machine_state g setup (record m { output = output }))
         ≡ after_call call r t (machine_state g setup m)
     by_outcome (Ok v) told kept e = rw (told, e) refl
     by_outcome (Err x) told kept e = rw (told, e, kept) refl
 
--- clone: the new thread stands behind the others
+-- clone: the new thread stands after the others
 pub clone_call : {P : Type 0} (g : Ghosts P) (setup : Setup) (m : Machine P)
     (trust : TrustValue) (threads : List Thread) (r : Runner) (t : Thread) (stack : ℕ)
     (outcome : Result ℕ ℕ) (value : ℕ) (call : CallResult)
-    → call ≡ made (machine_state g setup m) t stack outcome
+    → call ≡ clone_answer (machine_state g setup m) t stack outcome
     → IfOk outcome (λ _. threads
     ≡ m.threads ++ with_origin trust None (new_thread t stack) ∷ [])
     → OnErr outcome (threads ≡ m.threads) → trust_of (machine_state g setup m) ≡ trust
-    → r.number < length m.threads → value ≡ returned outcome
+    → r.number < length m.threads → value ≡ rax_of outcome
     → goes_on r t value (machine_state g setup (record m { threads = threads }))
     ≡ after_call call r t (machine_state g setup m)
 clone_call g setup m trust threads r t stack (Err x) value call told grown kept same there e =

@@ -9,7 +9,8 @@ use Rattle.erim_defs.specs.Machine.Pages.{RightsMap, ByteMap, published_code, co
 use Rattle.erim_defs.specs.Machine.Pages.{code_bytes_on, is_published}
 use Rattle.erim_defs.specs.Machine.Access.{Seen, whole}
 use Rattle.erim_defs.specs.Machine.Step.{fetch, fetch_as}
-use Rattle.page_store.specs.Answers.{rights_in, fetch_of, code_told}
+use Rattle.erim_defs.specs.Machine.Access.{rights_in}
+use Rattle.page_store.specs.Answers.{fetch_of, code_told}
 
 told_is : (r : Option Rights) (q x : ℕ) (xs : List ℕ)
     → code_told (Some r) q x (Ok xs) ≡ Ok (code_bytes_on (cond (is_published r) (Some x) None) xs)

@@ -7,7 +7,6 @@ use Rattle.std.specs.List.{list_any}
 use Rattle.std.proofs.lemmas.Bool.{cases_Bool}
 use Rattle.erim_defs.specs.declared.machine.Rights.{Rights}
 use Rattle.erim_defs.specs.declared.machine.Thread.{Thread}
-use Rattle.erim_defs.specs.declared.machine.Access.TheVariants.{Fault, Missing}
 use Rattle.erim_defs.specs.declared.found.Found.{Found}
 use Rattle.erim_defs.specs.declared.insn.Insn.{Insn}
 use Rattle.erim_defs.specs.declared.insn.FetchOutcome.{FetchOutcome}
@@ -24,9 +23,10 @@ use Rattle.erim_defs.specs.Machine.State.{State, any_live, code, with_origin, tr
 use Rattle.erim_defs.specs.Machine.CallResult.{Refusal, Answer, ThreadEnd, Quit}
 use Rattle.erim_defs.specs.Machine.CallResult.{CallResult}
 use Rattle.erim_defs.specs.Machine.Calls.{call_result}
-use Rattle.erim_defs.specs.Machine.Step.{is_free, step, after_move, after_instruction, after_call}
+use Rattle.erim_defs.specs.Machine.Step.{writes_pkru, step, after_move, after_instruction}
+use Rattle.erim_defs.specs.Machine.Step.{after_call}
 use Rattle.erim_defs.specs.Machine.Step.{after_fetch, sequence_of, with_new_thread, caller_after}
-use Rattle.erim_defs.specs.Machine.Step.{with_change, behind_syscall, after_verdict}
+use Rattle.erim_defs.specs.Machine.Step.{with_change, after_syscall, after_verdict}
 use Rattle.erim_defs.specs.Machine.Step.{after_exec_fault, ready_thread, after_step_of, if_live}
 use Rattle.erim_defs.specs.Machine.Step.{fetch, Runner, with_end, with_last_end}
 use Rattle.erim_defs.specs.declared.machine.End.TheVariants.{Exit}
@@ -65,7 +65,7 @@ any_live_set (u ∷ us) (suc t) old new e live =
           rw off (any_live_set us t old new e live)
     ]
 
--- threads behind them
+-- threads after them
 any_live_more : (ts us : List Thread) → any_live ts ≡ true → any_live (ts ++ us) ≡ true
 unfolding any_live
 any_live_more [] us h = absurd cc
@@ -129,7 +129,7 @@ replied_alive (Answer v c) t old new s here live =
       executed = None;
       free = false;
     }) changed in
-    λ none. made_live c.made moved
+    λ none. made_live c.clone moved
     (went_live t old (caller_after v c new) None false changed here live)
 replied_alive (ThreadEnd status) t old new s here live = last_alive status (after_move (record {
   runner = record { number = t; thread = old };
@@ -165,14 +165,14 @@ did_alive : (d : Effect) (insn : Insn) (len skip t : ℕ) (old : Thread) (s : St
     (record { number = t; thread = old }) s)
 did_alive (Done new w) insn len skip t old s h here live =
     λ none. went_live t old new
-    (sequence_of (record { insn = insn; len = len; skip = skip }) old.rip) (is_free insn old)
+    (sequence_of (record { insn = insn; len = len; skip = skip }) old.rip) (writes_pkru insn old)
     (record s { bytes = bytes_after_write w s.bytes }) here
     (done_live insn len old new w (whole s.rights) s.bytes old.pkru old.rip h ∙ live)
 did_alive (Stopped a) insn len skip t old s h here live =
     λ none. ap any_live (stop_threads a (record { number = t; thread = old }) s)
     ∙ any_live_at s.threads t old here live
 did_alive Called insn len skip t old s h here live =
-    replied_alive (call_result s t (behind_syscall len old)) t old (behind_syscall len old) s here
+    replied_alive (call_result s t (after_syscall len old)) t old (after_syscall len old) s here
     live
 
 -- a step without its guard

@@ -11,7 +11,8 @@ use Rattle.erim_defs.specs.declared.machine.Access.{Access}
 use Rattle.erim_defs.specs.Machine.Pages.{RightsMap, ByteMap, with_value_at, with_number}
 use Rattle.erim_defs.specs.Machine.Pages.{with_zero_page}
 use Rattle.erim_defs.specs.Machine.Access.{Seen, whole, opens_write, stop}
-use Rattle.page_store.specs.Answers.{rights_in, bytes_unless, bytes_after_store}
+use Rattle.erim_defs.specs.Machine.Access.{rights_in}
+use Rattle.page_store.specs.Answers.{bytes_unless, bytes_after_store}
 use Rattle.erim_defs.specs.declared.segment.Segment.{Segment}
 use Rattle.erim_defs.specs.Inspection.Image.{first_page, end_page, loaded_byte, touches}
 use Rattle.erim_defs.specs.Machine.Start.{is_stack}

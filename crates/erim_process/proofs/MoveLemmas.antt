@@ -12,18 +12,18 @@ use Rattle.erim_defs.specs.Machine.Access.{Seen, whole}
 use Rattle.erim_defs.specs.Inspection.Image.{image_trust}
 use Rattle.erim_defs.specs.Machine.State.{Setup, State, is_escape, trust_of, with_origin}
 use Rattle.erim_defs.specs.Machine.Step.{CodedInsn, Move, Runner, after_instruction}
-use Rattle.erim_defs.specs.Machine.Step.{after_move, is_free, sequence_of}
+use Rattle.erim_defs.specs.Machine.Step.{after_move, writes_pkru, sequence_of}
 use Rattle.x86_step.specs.Execution.{bytes_after, exec_of, thread_after}
 use Rattle.x86_step.specs.declared.answer.Exec.TheVariants as exec
-use Rattle.page_store.specs.Answers.{rights_in}
+use Rattle.erim_defs.specs.Machine.Access.{rights_in}
 use Rattle.page_store.specs.declared.memory.Memory.{Ghosts}
 use Rattle.erim_process.specs.declared.machine.Machine.{Machine}
-use Rattle.erim_process.specs.Machine.{machine_state, settled}
+use Rattle.erim_process.specs.Machine.{machine_state, with_thread}
 
 pub settled_move : (m : Move) (trust : TrustValue) (s : State) (after : Thread) (escaped : Bool)
     → trust_of s ≡ trust → after ≡ with_origin trust m.executed m.after
     → escaped ≡ is_escape trust m.free m.runner.thread m.after
-    → settled m.runner.number after escaped s ≡ after_move m s
+    → with_thread m.runner.number after escaped s ≡ after_move m s
 settled_move m trust s after escaped e f g = rw (f, g, ← e) refl
 
 -- the same, of an instruction that was done; it may have written
@@ -31,21 +31,21 @@ done_settled : (e : Effect) (trust : TrustValue) (i : CodedInsn) (r : Runner) (s
     (after : Thread) (escaped : Bool) (bytes : ByteMap) → trust_of s ≡ trust
     → exec.Done escaped ≡ exec_of e trust i.insn r.thread
     → after ≡ thread_after e trust i r.thread → bytes ≡ bytes_after e s.bytes
-    → settled r.number after escaped (record s { bytes = bytes }) ≡ after_instruction e i r s
+    → with_thread r.number after escaped (record s { bytes = bytes }) ≡ after_instruction e i r s
 done_settled (Done new w) trust i r s after escaped bytes e answer thread there =
-    let same : escaped ≡ is_escape trust (is_free i.insn r.thread) r.thread new = cc in
+    let same : escaped ≡ is_escape trust (writes_pkru i.insn r.thread) r.thread new = cc in
     rw there (settled_move (record {
       runner = r;
       after = new;
       executed = sequence_of i r.thread.rip;
-      free = is_free i.insn r.thread;
+      free = writes_pkru i.insn r.thread;
     }) trust (record s { bytes = bytes_after_write w s.bytes }) after escaped e thread same)
 done_settled (Stopped (Fault cause a)) trust i r s after escaped bytes e answer thread there =
     absurd cc
 done_settled (Stopped (Missing q)) trust i r s after escaped bytes e answer thread there = absurd cc
 done_settled Called trust i r s after escaped bytes e answer thread there = absurd cc
 
--- what an execution tells of what came of an instruction
+-- what an execution says of what came of an instruction
 pub call_is : (e : Effect) (trust : TrustValue) (i : CodedInsn) (t : Thread)
     → exec.Syscall ≡ exec_of e trust i.insn t → e ≡ Called
 call_is (Done new w) trust i t h = absurd cc
@@ -87,12 +87,12 @@ pub run_done : {P : Type 0} (g : Ghosts P) (setup : Setup) (m : Machine P) (page
     → after ≡ thread_after (effect_on i r (g.seen m.pages) (g.bytes m.pages)) trust i r.thread
     → g.bytes pages ≡ bytes_after (effect_on i r (g.seen m.pages) (g.bytes m.pages))
     (g.bytes m.pages)
-    → settled r.number after escaped (machine_state g setup (record m { pages = pages }))
+    → with_thread r.number after escaped (machine_state g setup (record m { pages = pages }))
     ≡ after_instruction (effect_on i r (whole (rights_in (g.seen m.pages))) (g.bytes m.pages)) i r
     (machine_state g setup m)
 run_done g setup m pages trust i r after escaped holds e same answer thread there =
     let s : State = machine_state g setup m in
-    ap (λ (x : Seen). settled r.number after escaped
+    ap (λ (x : Seen). with_thread r.number after escaped
     (record s { rights = rights_in x; bytes = g.bytes pages })) same
     ∙ done_settled (effect_on i r (g.seen m.pages) (g.bytes m.pages)) trust i r s after escaped
     (g.bytes pages) e answer thread there

@@ -3,8 +3,8 @@ use Rattle.std.proofs.Common.{Result, IsOk, is_ok, cond, get_or, length, vec_len
 use Rattle.std.proofs.Common.{◌≤◌, true, zero, suc, ◌≡◌, ℕ, List, [], ◌∷◌, ◌++◌, Option, Some, refl}
 use Rattle.std.proofs.Common.{sym, ap, subst, ◌∙◌, arith, None, inl, inr, ◌^◌, ◌*◌, ◌+◌, ◌/◌, false}
 use Rattle.erim_defs.specs.declared.machine.Entry.{Entry}
-use Rattle.std.proofs.lemmas.Bool.{le-leb, cases_lt}
-use Rattle.erim_defs.specs.Output.Journal.{AreEntries, IsJournal, is_entry}
+use Rattle.std.proofs.lemmas.Bool.{le-leb, lt-ltb, cases_lt}
+use Rattle.erim_defs.specs.Output.Journal.{AreEntries, IsJournal, is_journal_entry}
 use Rattle.erim_defs.specs.Machine.State.{Setup, State, code}
 use Rattle.erim_defs.specs.Inspection.Trust.{TrustValue}
 use Rattle.erim_defs.specs.Inspection.Image.{image_trust}
@@ -129,15 +129,15 @@ journal_form v w entries form same e =
     (record { budget = v.setup.budget; frames = v.setup.frames; entries = es })) (sym e) form)
 
 -- an entry more
-entries_more : (entries : List Entry) (e : Entry) → AreEntries entries → is_entry e ≡ true
+entries_more : (entries : List Entry) (e : Entry) → AreEntries entries → is_journal_entry e ≡ true
     → AreEntries (entries ++ e ∷ [])
 entries_more [] e h k = (k, tt)
 entries_more (x ∷ xs) e h k = (h.0, entries_more xs e h.1 k)
 
 -- the entry of one step of a thread
 one_step : (worker t : ℕ) → worker ≤ 8 → t ≤ 15
-    → is_entry (record { worker = worker; thread = t; count = 1 }) ≡ true
-one_step worker t w l = rw (le-leb worker 8 w, le-leb t 15 l) refl
+    → is_journal_entry (record { worker = worker; thread = t; count = 1 }) ≡ true
+one_step worker t w l = rw (le-leb worker 8 w, lt-ltb t 16 (omega (arith, l))) refl
 
 pub entries_pushed : {T E : Type 0} (g : Ghosts PageList) (p : Inside) (t worker : ℕ)
     (r : Result T E) (entries : List Entry) → IsReplay g p → p.machine.steps < p.setup.budget

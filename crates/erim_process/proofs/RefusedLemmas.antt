@@ -24,7 +24,7 @@ use Rattle.erim_defs.specs.Machine.Calls.{call_result}
 use Rattle.erim_defs.specs.Machine.Step.{step, after_fault, after_move, after_instruction}
 use Rattle.erim_defs.specs.Machine.Step.{after_call}
 use Rattle.erim_defs.specs.Machine.Step.{after_fetch, with_new_thread, caller_after, with_change}
-use Rattle.erim_defs.specs.Machine.Step.{behind_syscall, after_verdict, after_exec_fault}
+use Rattle.erim_defs.specs.Machine.Step.{after_syscall, after_verdict, after_exec_fault}
 use Rattle.erim_defs.specs.Machine.Step.{ready_thread, after_step_of, fetch, Runner, with_last_end}
 use Rattle.erim_defs.specs.Machine.Start.{first_state}
 use Rattle.erim_process.specs.Ends.{IfRefused}
@@ -66,7 +66,7 @@ low_replied : (r : CallResult) (t : ℕ) (old new : Thread) (s : State) → IsLo
     → IsLow (after_call r (record { number = t; thread = old }) new s)
 low_replied (Refusal e) t old new s h = h
 low_replied (Answer v c) t old new s h =
-    low_made c.made (after_move
+    low_made c.clone (after_move
     (record {
       runner = record { number = t; thread = old };
       after = (caller_after v c new);
@@ -95,7 +95,7 @@ low_did (Stopped a) insn len skip t old s h =
     ended (Fault cause x) = tt
     ended (Missing q) = h
 low_did Called insn len skip t old s h =
-    low_replied (call_result s t (behind_syscall len old)) t old (behind_syscall len old) s h
+    low_replied (call_result s t (after_syscall len old)) t old (after_syscall len old) s h
 
 -- a step without its guard
 low_moved : (x : FetchOutcome) (t : ℕ) (old : Thread) (s : State) → IsLow s

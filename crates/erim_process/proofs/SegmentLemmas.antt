@@ -8,9 +8,8 @@ use Rattle.std.proofs.lemmas.List.{get_or-drop}
 use Rattle.std.proofs.lemmas.List.Sums.{sum_by-drop_more, sum_by-take-drop}
 use Rattle.std.proofs.lemmas.Bool.{cases_Bool, both_ways, false_from_ne_true}
 use Rattle.erim_defs.specs.declared.segment.Segment.{Segment}
-use Rattle.erim_defs.specs.declared.trust.Span.{Span}
-use Rattle.erim_defs.specs.Inspection.Trust.{TrustValue, in_text_of}
-use Rattle.erim_defs.specs.Inspection.Image.{is_in_user, loaded_byte, image_data, image_heaps}
+use Rattle.erim_defs.specs.Inspection.Trust.{in_text_of}
+use Rattle.erim_defs.specs.Inspection.Image.{is_in_user, loaded_byte}
 use Rattle.erim_defs.specs.Inspection.Image.{image_trust, page_count, page_total, segments}
 use Rattle.erim_defs.specs.Inspection.Image.{shares_page, touches}
 use Rattle.erim_defs.specs.Machine.Start.{asked_in, asked_of, byte_in, first_rights, frames_needed}
@@ -131,7 +130,7 @@ get_or_any [] i d e h = absurd (omega arith)
 get_or_any (s ∷ ss) zero d e h = refl
 get_or_any (s ∷ ss) (suc i) d e h = get_or_any ss i d e (omega arith)
 
--- a segment is apart from those behind it
+-- a segment is apart from those after it
 pub apart_from : (ss : List Segment) (n : ℕ) (d : Segment) → 0 < n → n ≤ length ss
     → AllPairs (λ s t. shares_page s t ≡ false) ss
     → All (λ t. shares_page (get_or ss (n - 1) d) t ≡ false) (drop n ss)

@@ -1,11 +1,11 @@
 -- The state at the start, field by field.
 use Rattle.std.proofs.lemmas.Nat.{pow_pos, pow-add}
-use Rattle.std.proofs.lemmas.Bool.{le-ltb, false_from_ne_true}
+use Rattle.std.proofs.lemmas.Bool.{false_from_ne_true}
 use Rattle.std.proofs.Math.Nat.{div-eq_of_lt}
 use Rattle.std.proofs.Math.Path.{fun_ext}
 use Rattle.erim_defs.specs.Bits.{has_bit}
 use Rattle.std.proofs.Common.{◌≡◌, ◌≤◌, ◌<◌, ◌+◌, ◌*◌, ◌^◌, ◌/◌, ◌%◌, ◌||◌, zero, suc, arith, ℕ}
-use Rattle.std.proofs.Common.{cond, eqb, ltb, ltb-false, ne_eqb}
+use Rattle.std.proofs.Common.{cond, eqb, ltb-false, ne_eqb}
 use Rattle.erim_defs.specs.Inspection.Trust.{is_domain}
 use Rattle.erim_defs.proofs.DomainLemmas.{domain_range}
 use Rattle.std.proofs.Common.{Bool, true, false, List, [], ◌∷◌, Option, Some, None}
@@ -21,13 +21,11 @@ use Rattle.erim_defs.specs.declared.machine.Entry.{Entry}
 use Rattle.erim_defs.specs.Machine.Replay.{replay}
 use Rattle.erim_defs.specs.Machine.Start.{first_state, first_rights, first_thread, image_byte}
 use Rattle.erim_defs.specs.Machine.Start.{trusted_unsafe, frames_needed}
-use Rattle.erim_process.specs.declared.start_fault.StartFault.{StartFault}
-use Rattle.erim_process.specs.StartFaults.{start_fault, start_if, if_trusted}
-use Rattle.erim_defs.specs.Inspection.Unsafe.{IsFirstUnsafe, first_unsafe, top}
+use Rattle.erim_defs.specs.declared.start_fault.StartFault.{StartFault}
+use Rattle.erim_defs.specs.Machine.StartFaults.{start_fault, start_if, if_trusted}
+use Rattle.erim_defs.specs.Inspection.Unsafe.{IsFirstUnsafe, first_unsafe}
 use Rattle.erim_defs.specs.Inspection.Image.{text_of, image_code, image_trust, trusted_code}
-use Rattle.erim_defs.proofs.UnsafeLemmas.{first_is, none_first_below}
-use Rattle.erim_defs.specs.Inspection.Safe.{unsafe_at}
-use Rattle.erim_defs.specs.Machine.Isolation.{IsSafeCode, IsStartable}
+use Rattle.erim_defs.proofs.UnsafeLemmas.{first_is}
 
 -- ---- the keys that are taken
 
@@ -145,20 +143,6 @@ start_room setup h =
     let second = none_second (if_trusted (trusted_unsafe setup.image)) _ h in
     ltb-false setup.frames (frames_needed setup.image)
     (if_none _ _ second)
-
-safe_trusted : (image : List ℕ) → IsSafeCode (image_trust image) (trusted_code image)
-    → trusted_unsafe image ≡ None
-unfolding trusted_unsafe first_unsafe
-safe_trusted image safe =
-    none_first_below top (unsafe_at (image_trust image) (trusted_code image)) (λ a low. safe a)
-
--- nothing keeps a setup that can be started from starting
-pub start_none : (setup : Setup) → IsStartable setup → start_fault setup ≡ None
-unfolding start_fault
-start_none setup h =
-    let room : ltb setup.frames (frames_needed setup.image) ≡ false =
-    le-ltb setup.frames (frames_needed setup.image) h.room in
-    rw (safe_trusted setup.image h.safe, room) refl
 
 -- its thread is live
 pub start_live : (setup : Setup) (s : State) → s ≡ first_state setup → any_live s.threads ≡ true

@@ -1,5 +1,5 @@
 -- What loading the pages of segments does to rights and bytes.
-use Rattle.std.specs.Prelude.{◌≡◌, ℕ, ◌*◌, ◌/◌, ◌&&◌, ◌++◌, nat_lt, nat_le}
+use Rattle.std.specs.Prelude.{◌≡◌, ℕ, ◌*◌, ◌/◌, ◌&&◌, nat_lt, nat_le}
 use Rattle.std.specs.Prelude.{Bool, true, Option, Some, None, List, if◌then◌else◌}
 use Rattle.erim_defs.specs.declared.machine.Rights.{Rights}
 use Rattle.erim_defs.specs.declared.segment.Segment.{Segment}

@@ -8,9 +8,9 @@ use Rattle.erim_defs.specs.Inspection.Trust.{TrustValue}
 use Rattle.erim_defs.specs.Inspection.Image.{image_heaps, image_trust}
 use Rattle.erim_defs.specs.declared.machine.Thread.{Thread}
 use Rattle.erim_defs.specs.Machine.State.{Setup, State, first_escape}
-use Rattle.page_store.specs.Answers.{rights_in}
+use Rattle.erim_defs.specs.Machine.Access.{rights_in}
 use Rattle.page_store.specs.declared.memory.Memory.{Ghosts}
-use Rattle.x86_step.specs.Placed.{IsPlaced}
+use Rattle.x86_step.specs.Reach.{IsInReach}
 use Rattle.erim_process.specs.declared.machine.Machine.{Machine}
 
 abbrev pub machine_state : {P : Type 0} → Ghosts P → Setup → Machine P → State
@@ -43,8 +43,8 @@ pub record KeepsLimits {P : Type 0} (g : Ghosts P) (old new : Machine P) : Type 
   pub frames : g.frames new.pages ≡ g.frames old.pages
 
 -- thread t is another from now on, and the first escape is kept
-abbrev pub settled : ℕ → Thread → Bool → State → State
-settled t thread escaped s = record s {
+abbrev pub with_thread : ℕ → Thread → Bool → State → State
+with_thread t thread escaped s = record s {
   threads = slice_set s.threads t thread;
   escape = first_escape s.escape escaped
       (record { step = s.steps; thread = t; rip = thread.rip });
@@ -52,7 +52,7 @@ settled t thread escaped s = record s {
 
 -- where an instruction that was fetched stands, and how long it may be
 abbrev pub IsBounded : FetchOutcome → ℕ → Type 0
-IsBounded (Runs insn len skip) rip = IsPlaced rip len skip
+IsBounded (Runs insn len skip) rip = IsInReach rip len skip
 IsBounded (Need addr) rip = Unit {0}
 IsBounded Wrong rip = Unit {0}
 
@@ -62,6 +62,6 @@ SamePages g old new = (g.seen new ≡ g.seen old) × (g.bytes new ≡ g.bytes ol
     × (g.frames new ≡ g.frames old)
 
 -- what RAX gets of a call
-abbrev pub returned : Result ℕ ℕ → ℕ
-returned (Ok v) = v
-returned (Err e) = 2 ^ 64 - e
+abbrev pub rax_of : Result ℕ ℕ → ℕ
+rax_of (Ok v) = v
+rax_of (Err e) = 2 ^ 64 - e

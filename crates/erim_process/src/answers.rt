@@ -3,7 +3,7 @@
 ghost use Rattle.std.specs.Prelude.{◌≡◌, ◌<◌, ◌-◌, ◌^◌, length, false, None, IfErr};
 ghost use Rattle.erim_defs.specs.Machine.Registers.{with_register};
 ghost use Rattle.erim_defs.specs.Machine.Step.{after_move};
-ghost use Rattle.erim_process.specs.Machine.{Becomes, KeepsLimits, returned};
+ghost use Rattle.erim_process.specs.Machine.{Becomes, KeepsLimits, rax_of};
 
 use crate::machine::Machine;
 use erim_defs::register::RAX;
@@ -20,9 +20,9 @@ pub(crate) fn refusal(error: u16) -> u64
 }
 
 /// What RAX gets: the answer, or the error number negated.
-pub(crate) fn returned(outcome: Result<u64, u16>) -> u64
+pub(crate) fn rax_of(outcome: Result<u64, u16>) -> u64
     requires { IfErr outcome (λ error. 0 < error) }
-    ensures { result ≡ returned outcome }
+    ensures { result ≡ rax_of outcome }
 {
     match outcome {
         Ok(value) => value,
@@ -44,6 +44,6 @@ impl<P: Pages> Machine<P> {
     {
         let mut after = *new;
         set_register(&mut after, RAX, value);
-        self.go(trust, t, old, &after, None, false);
+        self.advance(trust, t, old, &after, None, false);
     }
 }

@@ -2,7 +2,7 @@
 
 ghost use Rattle.std.specs.Prelude.{◌≡◌, ◌<◌, length};
 ghost use Rattle.erim_defs.specs.Machine.Calls.{call_result};
-ghost use Rattle.erim_defs.specs.Machine.Step.{flags_word, after_call, behind_syscall};
+ghost use Rattle.erim_defs.specs.Machine.Step.{flags_word, after_call, after_syscall};
 ghost use Rattle.erim_process.specs.Machine.{Becomes, KeepsLimits};
 
 use crate::answers::refusal;
@@ -40,9 +40,9 @@ fn flags_word(flags: Flags) -> u64
     word
 }
 
-/// The thread behind SYSCALL, before its call.
-pub(crate) fn behind_syscall(thread: &Thread, len: u8) -> Thread
-    ensures { result ≡ behind_syscall len thread.now }
+/// The thread after SYSCALL, before its call.
+pub(crate) fn after_syscall(thread: &Thread, len: u8) -> Thread
+    ensures { result ≡ after_syscall len thread.now }
 {
     let mut new = *thread;
     onward(&mut new, len);
@@ -53,7 +53,7 @@ pub(crate) fn behind_syscall(thread: &Thread, len: u8) -> Thread
 }
 
 impl<P: Pages> Machine<P> {
-    /// The system call of a thread. `new` is the thread behind SYSCALL.
+    /// The system call of a thread. `new` is the thread after SYSCALL.
     #[tactic(auto, unfolding(erim_defs::specs::Machine::Calls::call_result))]
     pub(crate) fn call(&mut self, trust: &Trust, t: u8, old: &Thread, new: &Thread)
         requires there { t < length self.old.threads }

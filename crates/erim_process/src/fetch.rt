@@ -3,7 +3,7 @@
 ghost use Rattle.std.specs.Prelude.{◌≡◌, ℕ};
 ghost use Rattle.erim_defs.specs.Machine.Pages.{published_code};
 ghost use Rattle.erim_defs.specs.Machine.Step.{fetch};
-ghost use Rattle.page_store.specs.Answers.{rights_in};
+ghost use Rattle.erim_defs.specs.Machine.Access.{rights_in};
 ghost use Rattle.erim_process.specs.Machine.{IsBounded};
 
 use erim_defs::{Decoded, FetchOutcome};

@@ -6,7 +6,7 @@ ghost use Rattle.erim_defs.specs.Machine.Registers.{register};
 ghost use Rattle.erim_defs.specs.Machine.Step.{after_call};
 ghost use Rattle.erim_process.specs.Machine.{Becomes, KeepsLimits};
 
-use crate::answers::returned;
+use crate::answers::rax_of;
 use crate::machine::Machine;
 use erim_defs::page::TRUSTED_KEY;
 use erim_defs::register::RDI;
@@ -25,7 +25,7 @@ impl<P: Pages> Machine<P> {
     {
         let len = register(new, RDI);
         let outcome = self.heap.talloc(trust.opens(new.pkru, TRUSTED_KEY), len);
-        self.answer(trust, t, old, new, returned(outcome));
+        self.answer(trust, t, old, new, rax_of(outcome));
     }
 
     /// The call tfree: its address is in RDI.
@@ -38,6 +38,6 @@ impl<P: Pages> Machine<P> {
     {
         let addr = register(new, RDI);
         let outcome = self.heap.tfree(trust.opens(new.pkru, TRUSTED_KEY), addr);
-        self.answer(trust, t, old, new, returned(outcome));
+        self.answer(trust, t, old, new, rax_of(outcome));
     }
 }

@@ -6,12 +6,12 @@ mod rights;
 ghost use Rattle.std.specs.Prelude.{◌≡◌, ◌<◌, ◌≤◌, ◌+◌, ◌^◌, ℕ, Some, None, false, length, sum_by};
 ghost use Rattle.std.specs.Prelude.{All, IsTrue};
 ghost use Rattle.erim_defs.specs.Machine.Access.{whole};
-ghost use Rattle.erim_defs.specs.Machine.Count.{mapped};
+ghost use Rattle.erim_defs.specs.Machine.Count.{mapped_pages};
 ghost use Rattle.erim_defs.specs.Inspection.Image.{IsAccepted, IsPlaced, loaded_byte, page_count};
 ghost use Rattle.erim_defs.specs.Encoding.Parts.{AreBytes};
 ghost use Rattle.erim_defs.specs.Inspection.Image.{segments, touches};
 ghost use Rattle.erim_defs.specs.Machine.Start.{asked_of, byte_in, unpublished_rights, is_stack};
-ghost use Rattle.page_store.specs.Answers.{rights_in};
+ghost use Rattle.erim_defs.specs.Machine.Access.{rights_in};
 ghost use Rattle.erim_process.specs.ImagePages.{AllUnmapped, bytes_over, page_rights, rights_from};
 ghost use Rattle.erim_process.specs.ImagePages.{rights_over, segment_rights};
 
@@ -30,7 +30,7 @@ const STACK_ASKED: u8 = PROT_READ + PROT_WRITE;
 fn load_segment<P: Pages>(pages: &mut P, image: &Image, segment: &Segment)
     requires placed { IsPlaced (length image.now) segment.now }
     requires unmapped { AllUnmapped (touches segment.now) (rights_in (P.seen pages.old)) }
-    requires room { mapped (rights_in (P.seen pages.old)) + page_count segment.now ≤ P.frames
+    requires room { mapped_pages (rights_in (P.seen pages.old)) + page_count segment.now ≤ P.frames
         pages.old }
     ensures rights { rights_in (P.seen pages.new)
         ≡ rights_over (touches segment.now)
@@ -39,8 +39,8 @@ fn load_segment<P: Pages>(pages: &mut P, image: &Image, segment: &Segment)
     ensures bytes { P.bytes pages.new
         ≡ bytes_over (touches segment.now) (loaded_byte image.now segment.now) (P.bytes pages.old) }
     ensures frames { P.frames pages.new ≡ P.frames pages.old }
-    ensures count { mapped (rights_in (P.seen pages.new))
-        ≡ mapped (rights_in (P.seen pages.old)) + page_count segment.now }
+    ensures count { mapped_pages (rights_in (P.seen pages.new))
+        ≡ mapped_pages (rights_in (P.seen pages.old)) + page_count segment.now }
 {
     let asked = asked_of(segment);
     for page in segment.first_page()..segment.end_page() {
@@ -58,7 +58,7 @@ fn load_segments<P: Pages>(pages: &mut P, image: &Image)
         ≡ segment_rights (segments image.now) image.now }
     ensures bytes { P.bytes pages.new ≡ byte_in image.now (segments image.now) }
     ensures frames { P.frames pages.new ≡ P.frames pages.old }
-    ensures count { mapped (rights_in (P.seen pages.new))
+    ensures count { mapped_pages (rights_in (P.seen pages.new))
         ≡ sum_by page_count (segments image.now) }
     ensures placed { All (IsPlaced (length image.now)) (segments image.now) }
     ensures accepted { IsAccepted image.now }
@@ -76,14 +76,14 @@ fn load_segments<P: Pages>(pages: &mut P, image: &Image)
 // Maps the pages of the stack.
 fn map_stack<P: Pages>(pages: &mut P)
     requires unmapped { AllUnmapped is_stack (rights_in (P.seen pages.old)) }
-    requires room { mapped (rights_in (P.seen pages.old)) + 16 ≤ P.frames pages.old }
+    requires room { mapped_pages (rights_in (P.seen pages.old)) + 16 ≤ P.frames pages.old }
     ensures rights { rights_in (P.seen pages.new)
         ≡ rights_over is_stack (λ _. unpublished_rights 3 0) (rights_in (P.seen pages.old)) }
     ensures bytes { P.bytes pages.new ≡ P.bytes pages.old }
     ensures frames { P.frames pages.new ≡ P.frames pages.old }
 {
     for page in STACK_PAGE..STACK_END_PAGE {
-        pages.map_zero(page, Rights::unpublished(STACK_ASKED, PLAIN_KEY));
+        pages.map_zero(page, Rights::unpublished_rights(STACK_ASKED, PLAIN_KEY));
     }
 }
 

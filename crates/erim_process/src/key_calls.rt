@@ -6,7 +6,7 @@ ghost use Rattle.erim_defs.specs.Machine.Registers.{register};
 ghost use Rattle.erim_defs.specs.Machine.Step.{after_call};
 ghost use Rattle.erim_process.specs.Machine.{Becomes, KeepsLimits};
 
-use crate::answers::returned;
+use crate::answers::rax_of;
 use crate::machine::Machine;
 use erim_defs::register::{RDI, RSI};
 use erim_defs::{Thread, Trust};
@@ -26,7 +26,7 @@ impl<P: Pages> Machine<P> {
         let mut pkru = new.pkru;
         let (flags, rights) = (register(new, RDI), register(new, RSI));
         let outcome = pkey_alloc(&mut self.keys, &mut pkru, flags, rights);
-        self.answer(trust, t, old, &Thread { pkru, ..*new }, returned(outcome));
+        self.answer(trust, t, old, &Thread { pkru, ..*new }, rax_of(outcome));
     }
 
     /// The call pkey_free: its key is in RDI.
@@ -38,6 +38,6 @@ impl<P: Pages> Machine<P> {
         ensures kept { KeepsLimits P.Memory self.old self.new }
     {
         let outcome = pkey_free(&mut self.keys, trust, register(new, RDI));
-        self.answer(trust, t, old, new, returned(outcome));
+        self.answer(trust, t, old, new, rax_of(outcome));
     }
 }

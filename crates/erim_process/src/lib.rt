@@ -2,10 +2,10 @@
 //!
 //! `Process::start` checks an accepted image and loads it; `step_now` makes one step of a thread
 //! and writes it into the journal. A process' value is its setup and its journal: `state_of`
-//! replays them, and every view (`rights`, `word`, `thread`, `output`, `end`, `escape`) is told by
-//! that state. Steps meet `step`, the start `first_state` and `start_fault`, and the kept facts are
-//! `IsReplay` and what `isolation` proves of every run. `erim_commands`' `run` calls it;
-//! `check_start` asks `image_code` for the first unsafe sequence of the code and of trusted text.
+//! replays them, and every view (`rights`, `word`, `thread`, `output`, `end`, `escape`) is read
+//! from that state. Steps meet `step`, the start `first_state` and `start_fault`, and the kept
+//! facts are `IsReplay` and what `isolation` proves of every run. `thread_runner` calls it;
+//! `check_start` asks `image_code` for the first unsafe sequence of trusted text.
 #![tactic(auto)]
 
 mod answers;
@@ -20,12 +20,9 @@ mod page_calls;
 mod process;
 mod setup;
 mod start;
-mod start_fault;
 mod step;
-mod stepped;
 mod thread_calls;
 
+pub use erim_defs::{StartFault, Stepped};
 pub use process::Process;
 pub use setup::Setup;
-pub use start_fault::StartFault;
-pub use stepped::Stepped;

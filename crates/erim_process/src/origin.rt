@@ -3,7 +3,7 @@
 ghost use Rattle.std.specs.Prelude.{◌≡◌, ◌<◌, length};
 ghost use Rattle.erim_defs.specs.Machine.State.{Setup};
 ghost use Rattle.erim_defs.specs.Machine.Step.{after_move};
-ghost use Rattle.erim_process.specs.Machine.{Becomes, KeepsLimits, machine_state, settled};
+ghost use Rattle.erim_process.specs.Machine.{Becomes, KeepsLimits, machine_state, with_thread};
 
 use crate::machine::Machine;
 use erim_defs::{Escape, Found, Thread, Trust};
@@ -15,7 +15,7 @@ impl<P: Pages> Machine<P> {
     pub(crate) fn settle(&mut self, t: u8, new: &Thread, escaped: bool)
         requires there { t < length self.old.threads }
         ensures state { (setup : Setup) → machine_state P.Memory setup self.new
-            ≡ settled t new.now escaped (machine_state P.Memory setup self.old) }
+            ≡ with_thread t new.now escaped (machine_state P.Memory setup self.old) }
         ensures kept { KeepsLimits P.Memory self.old self.new }
     {
         if escaped && self.escape.is_none() {
@@ -29,7 +29,7 @@ impl<P: Pages> Machine<P> {
     }
 
     /// The thread `t` goes from `old` to `new`. `free` says that this is no escape.
-    pub(crate) fn go(
+    pub(crate) fn advance(
         &mut self,
         trust: &Trust,
         t: u8,

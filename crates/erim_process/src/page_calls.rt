@@ -7,7 +7,7 @@ ghost use Rattle.erim_defs.specs.Machine.Registers.{register};
 ghost use Rattle.erim_defs.specs.Machine.Step.{after_call};
 ghost use Rattle.erim_process.specs.Machine.{Becomes, KeepsLimits};
 
-use crate::answers::returned;
+use crate::answers::rax_of;
 use crate::machine::Machine;
 use erim_defs::register::{R10, RDI, RDX, RSI};
 use erim_defs::{Thread, Trust};
@@ -36,7 +36,7 @@ impl<P: Pages> Machine<P> {
             prot,
             flags,
         );
-        self.answer(trust, t, old, new, returned(outcome));
+        self.answer(trust, t, old, new, rax_of(outcome));
     }
 
     /// The call munmap: its address and length are in RDI and RSI.
@@ -50,7 +50,7 @@ impl<P: Pages> Machine<P> {
         let (addr, len) = (register(new, RDI), register(new, RSI));
         let threads = self.threads.list();
         let outcome = map_calls::munmap(&mut self.pages, trust, threads, new.pkru, addr, len);
-        self.answer(trust, t, old, new, returned(outcome));
+        self.answer(trust, t, old, new, rax_of(outcome));
     }
 
     /// The call mprotect: its address, length and protection bits are in RDI, RSI and RDX.
@@ -72,7 +72,7 @@ impl<P: Pages> Machine<P> {
             len,
             prot,
         );
-        self.answer(trust, t, old, new, returned(outcome));
+        self.answer(trust, t, old, new, rax_of(outcome));
     }
 
     /// The call pkey_mprotect: as mprotect, and its key is in R10.
@@ -97,6 +97,6 @@ impl<P: Pages> Machine<P> {
             prot,
             key,
         );
-        self.answer(trust, t, old, new, returned(outcome));
+        self.answer(trust, t, old, new, rax_of(outcome));
     }
 }

@@ -9,21 +9,20 @@ ghost use Rattle.erim_defs.specs.Output.Journal.{IsJournal};
 ghost use Rattle.erim_defs.specs.Machine.Pages.{IsSound, word};
 ghost use Rattle.erim_defs.specs.Machine.State.{any_live};
 ghost use Rattle.erim_defs.specs.Machine.Step.{step};
-ghost use Rattle.isolation.specs.Laws.{AreLawful, IsLawful};
+ghost use Rattle.erim_defs.specs.Machine.Lawful.{AreLawful, IsLawful};
 ghost use Rattle.page_store.specs.Answers.{HasBytes};
 ghost use Rattle.erim_process.specs.Ends.{IfRefused};
 ghost use Rattle.erim_process.specs.ProcessValue.{ProcessValue, state_of, IsRun};
 ghost use Rattle.erim_process.specs.ProcessInvariant.{setup_of};
-ghost use Rattle.erim_process.specs.StartFaults.{start_fault};
-ghost use Rattle.erim_process.specs.StepFacts.{answer};
+ghost use Rattle.erim_defs.specs.Machine.StartFaults.{start_fault};
+ghost use Rattle.erim_defs.specs.Machine.StepAnswers.{step_answer};
+ghost use Rattle.erim_defs.specs.declared.limits.TheConstants.{LEAST_FRAMES, MOST_FRAMES, MOST_STEPS};
 
 use crate::machine::Machine;
 use crate::setup::Setup;
 use crate::start::{check_start, load_machine};
-use crate::start_fault::StartFault;
-use crate::stepped::Stepped;
-use erim_defs::{End, Entry, Escape, Rights, Thread};
-use isolation::{always_kept, lawful, startable};
+use erim_defs::{End, Entry, Escape, Rights, StartFault, Stepped, Thread};
+use isolation::{always_kept, checked_is_startable, steps_are_lawful};
 use page_store::{Memory, PageCopy, PageList, Pages};
 use std::alloc::Global;
 use std::marker::Model;
@@ -58,7 +57,7 @@ impl Process {
             ⊎ (start_fault (setup_of setup) ≡ Some fault)) }
     {
         check_start(alloc, &setup)?;
-        startable();
+        checked_is_startable();
         let machine = load_machine(alloc, &setup)?;
         let journal = Vec::with_capacity(alloc, setup.budget as usize)?;
         Ok(Process {
@@ -131,14 +130,14 @@ impl Process {
         ensures value { setup_of result.now ≡ self.now.setup }
         ensures same { (state_of self.now).setup ≡ self.now.setup }
         ensures some_budget { 1 ≤ self.now.setup.budget }
-        ensures budget { self.now.setup.budget ≤ 4194304 }
-        ensures some_frames { 64 ≤ self.now.setup.frames }
-        ensures frames { self.now.setup.frames ≤ 4096 }
+        ensures budget { self.now.setup.budget ≤ MOST_STEPS }
+        ensures some_frames { LEAST_FRAMES ≤ self.now.setup.frames }
+        ensures frames { self.now.setup.frames ≤ MOST_FRAMES }
         ensures isolated { IsIsolated self.now.setup }
         ensures lawful { AreLawful self.now.setup }
     {
         always_kept();
-        lawful();
+        steps_are_lawful();
         &self.setup
     }
 
@@ -201,7 +200,7 @@ impl Process {
     /// text does, and when a page is published or refused.
     pub fn step_now(&mut self, worker: u16, thread: u8) -> Stepped
         requires { worker ≤ 8 }
-        ensures answer { result ≡ answer (state_of self.old) thread }
+        ensures answer { result ≡ step_answer (state_of self.old) thread }
         ensures journal { result ≡ Stepped.Made
             → self.new ≡ record {
               setup = self.old.setup;
@@ -220,7 +219,7 @@ impl Process {
             → IsLawful thread (state_of self.old) (state_of self.new) }
     {
         always_kept();
-        lawful();
+        steps_are_lawful();
         let budget = self.setup.budget;
         match self.machine.step(self.setup.image.trust(), budget, thread) {
             Stepped::Made => {

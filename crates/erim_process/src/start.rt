@@ -11,15 +11,14 @@ ghost use Rattle.erim_defs.specs.Machine.State.{Setup as Given};
 ghost use Rattle.erim_defs.specs.Machine.Start.{first_thread, frames_needed, first_state};
 ghost use Rattle.erim_process.specs.Machine.{machine_state};
 ghost use Rattle.erim_process.specs.ProcessInvariant.{setup_of};
-ghost use Rattle.erim_process.specs.StartFaults.{start_fault};
+ghost use Rattle.erim_defs.specs.Machine.StartFaults.{start_fault};
 
 use crate::image_pages::load_pages;
 use crate::machine::Machine;
 use crate::setup::Setup;
-use crate::start_fault::StartFault;
 use erim_defs::page::STACK_START;
 use erim_defs::register::RSP;
-use erim_defs::{Flags, Keys, Thread, Trust};
+use erim_defs::{Flags, Keys, StartFault, Thread, Trust};
 use image_code::ImageCode;
 use page_store::{Memory, PageList};
 use std::alloc::Global;
@@ -27,7 +26,7 @@ use sys_calls::{Output, Threads};
 use trusted_heap::Heap;
 
 /// What keeps the image from starting.
-#[tactic(auto, unfolding(crate::specs::StartFaults::start_fault))]
+#[tactic(auto, unfolding(erim_defs::specs::Machine::StartFaults::start_fault))]
 pub(crate) fn check_start(alloc: Global, setup: &Setup) -> Result<(), StartFault>
     ensures { MatchResult result (λ _. start_fault (setup_of setup.now) ≡ None)
         (λ fault. (fault ≡ StartFault.Memory) ⊎ (start_fault (setup_of setup.now) ≡ Some fault)) }

@@ -17,16 +17,15 @@ ghost use Rattle.erim_defs.specs.Machine.State.{Setup, code, trust_of};
 ghost use Rattle.erim_defs.specs.Machine.Step.{step, after_fetch, after_instruction};
 ghost use Rattle.erim_defs.specs.Machine.Step.{after_exec_fault, after_stop, after_take_back};
 ghost use Rattle.erim_defs.specs.Machine.Step.{after_verdict, after_write_fault, fetch};
-ghost use Rattle.page_store.specs.Answers.{rights_in};
+ghost use Rattle.erim_defs.specs.Machine.Access.{rights_in};
 ghost use Rattle.erim_process.specs.Machine.{Becomes, IsBounded, KeepsLimits, machine_state};
-ghost use Rattle.erim_process.specs.StepFacts.{answer};
+ghost use Rattle.erim_defs.specs.Machine.StepAnswers.{step_answer};
 
-use crate::calls::behind_syscall;
+use crate::calls::after_syscall;
 use crate::fetch::fetch;
 use crate::machine::Machine;
-use crate::stepped::Stepped;
 use erim_defs::page::USER_END_PAGE;
-use erim_defs::{Cause, End, FetchOutcome, Insn, Thread, Trust};
+use erim_defs::{Cause, End, FetchOutcome, Insn, Stepped, Thread, Trust};
 use exec_fault::{Verdict, publish, take_back, verdict};
 use map_calls::is_pinned;
 use page_store::{Memory, Pages};
@@ -130,7 +129,15 @@ impl<P: Pages> Machine<P> {
     }
 
     /// What an instruction makes of the thread.
-    fn run(&mut self, trust: &Trust, t: u8, thread: &Thread, insn: &Insn, len: u8, skip: u8)
+    fn execute_insn(
+        &mut self,
+        trust: &Trust,
+        t: u8,
+        thread: &Thread,
+        insn: &Insn,
+        len: u8,
+        skip: u8,
+    )
         requires placed { IsBounded (Runs insn.now len skip) thread.now.rip }
         requires there { t < length self.old.threads }
         ensures state { Becomes P.Memory trust.now self.old self.new
@@ -143,7 +150,7 @@ impl<P: Pages> Machine<P> {
         let mut new = *thread;
         match exec(insn, len, skip, trust, &mut new, &mut self.pages) {
             Exec::Done { escaped } => self.settle(t, &new, escaped),
-            Exec::Syscall => self.call(trust, t, thread, &behind_syscall(thread, len)),
+            Exec::Syscall => self.call(trust, t, thread, &after_syscall(thread, len)),
             Exec::Fault { cause, addr } => self.stop(t, thread, cause, addr),
             // The pages hold every page.
             Exec::Missing { .. } => {}
@@ -151,7 +158,7 @@ impl<P: Pages> Machine<P> {
     }
 
     /// What the thread makes of what stands at its RIP.
-    fn make(&mut self, trust: &Trust, t: u8, thread: &Thread)
+    fn fetch_and_execute(&mut self, trust: &Trust, t: u8, thread: &Thread)
         requires there { t < length self.old.threads }
         requires safe { IsSafeCode trust.now
             (published_code (rights_in (P.seen self.old.pages)) (P.bytes self.old.pages)) }
@@ -161,7 +168,9 @@ impl<P: Pages> Machine<P> {
         ensures kept { KeepsLimits P.Memory self.old self.new }
     {
         match fetch(&mut self.pages, thread.rip) {
-            FetchOutcome::Runs { insn, len, skip } => self.run(trust, t, thread, &insn, len, skip),
+            FetchOutcome::Runs { insn, len, skip } => self.execute_insn(
+                trust, t, thread, &insn, len, skip,
+            ),
             FetchOutcome::Need { addr } => self.exec_fault(trust, t, thread, addr),
             FetchOutcome::Wrong => self.fail(t, thread.rip, Cause::Undefined, thread.rip),
         }
@@ -173,7 +182,7 @@ impl<P: Pages> Machine<P> {
         requires safe { IsSafeCode trust.now
             (published_code (rights_in (P.seen self.old.pages)) (P.bytes self.old.pages)) }
         ensures answer { (setup : Setup) → setup.budget ≡ budget
-            → result ≡ answer (machine_state P.Memory setup self.old) t }
+            → result ≡ step_answer (machine_state P.Memory setup self.old) t }
         ensures made { (setup : Setup) → setup.budget ≡ budget → image_trust setup.image ≡ trust.now
             → setup.frames ≡ P.frames self.old.pages
             → image_heaps setup.image ≡ self.old.heap.heaps → result ≡ Stepped.Made
@@ -201,7 +210,7 @@ impl<P: Pages> Machine<P> {
             return Stepped::NotLive;
         }
         self.steps += 1;
-        self.make(trust, t, &thread);
+        self.fetch_and_execute(trust, t, &thread);
         Stepped::Made
     }
 }

@@ -12,7 +12,7 @@ ghost use Rattle.erim_defs.specs.Machine.ThreadCalls.{clone_result, gettid_resul
 ghost use Rattle.erim_defs.specs.Machine.ThreadCalls.{sched_yield_result};
 ghost use Rattle.erim_process.specs.Machine.{Becomes, KeepsLimits};
 
-use crate::answers::returned;
+use crate::answers::rax_of;
 use crate::machine::Machine;
 use erim_defs::register::{RDI, RDX, RSI};
 use erim_defs::{End, Thread, Trust};
@@ -38,7 +38,7 @@ impl<P: Pages> Machine<P> {
     {
         let (fd, buf, n) = (register(new, RDI), register(new, RSI), register(new, RDX));
         let outcome = write_out(&mut self.pages, &mut self.output, new.pkru, fd, buf, n);
-        self.answer(trust, t, old, new, returned(outcome));
+        self.answer(trust, t, old, new, rax_of(outcome));
     }
 
     /// The call clone: its flags and its stack are in RDI and RSI.
@@ -51,7 +51,7 @@ impl<P: Pages> Machine<P> {
     {
         let (flags, stack) = (register(new, RDI), register(new, RSI));
         let outcome = clone_thread(&mut self.threads, trust, new, flags, stack);
-        self.answer(trust, t, old, new, returned(outcome));
+        self.answer(trust, t, old, new, rax_of(outcome));
     }
 
     /// The call gettid.
@@ -99,7 +99,7 @@ impl<P: Pages> Machine<P> {
             live: false,
             ..*new
         };
-        self.go(trust, t, old, &ended, None, false);
+        self.advance(trust, t, old, &ended, None, false);
         if !any_live(self.threads.list()) {
             self.leave(new);
         }
@@ -113,7 +113,7 @@ impl<P: Pages> Machine<P> {
             new.now) }
         ensures kept { KeepsLimits P.Memory self.old self.new }
     {
-        self.go(trust, t, old, new, None, false);
+        self.advance(trust, t, old, new, None, false);
         self.leave(new);
     }
 }

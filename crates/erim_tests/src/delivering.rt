@@ -43,7 +43,7 @@ fn words_that_mean_no_command(rt: HostRuntime) {
     assert!(rt; held.failed_loads().is_empty());
 }
 
-/// Calls the program over a store of which one call fails, as `text` tells.
+/// Calls the program over a store of which one call fails, as `text` says.
 fn check_failing(rt: &impl Abort, alloc: Global, line: &str, failing: u32, text: &str) {
     let mut held = store(rt, alloc, leaving(rt, alloc), &[failing]);
     check_call(rt, alloc, line, &mut held, 4, text);

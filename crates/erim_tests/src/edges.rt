@@ -7,7 +7,7 @@ use crate::rows::{lines, word};
 use std::alloc::Global;
 use std::process::Abort;
 
-/// Its kind and its place in page 0x401000; its bytes before the edge and behind it. Each form of
+/// Its kind and its place in page 0x401000; its bytes before the edge and after it. Each form of
 /// XRSTOR's operand in memory is there. LFENCE is no sequence.
 const ROWS: &str = "\
 wrpkru fff 0f 01ef
@@ -44,7 +44,7 @@ lfence ffd 0faee8 -";
 /// mov edi, 0; mov eax, 231; syscall: the program ends with 0.
 const LEAVES: &str = "bf00000000b8e70000000f05";
 
-/// The check behind a sequence of a kind.
+/// The check after a sequence of a kind.
 fn check_behind(kind: &str) -> &'static str {
     match kind {
         "wrpkru" => "3d545555557407b8e70000000f05",
@@ -52,7 +52,7 @@ fn check_behind(kind: &str) -> &'static str {
     }
 }
 
-/// The report of a run that ends so behind some steps.
+/// The report of a run that ends so after some steps.
 fn report(rt: &impl Abort, alloc: Global, steps: u32, end: &str) -> String {
     let text = format!(in alloc;
         "output 0//steps {steps}/end {end}/escape none/\

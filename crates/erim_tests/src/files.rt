@@ -122,7 +122,7 @@ fn bytes_that_drip_are_read_to_the_end(rt: HostRuntime) {
     assert!(rt; answer == Err(LoadFault::TooLarge { length: 4 }));
 }
 
-/// Takes so many bytes, two at a time, and then none.
+/// Takes a given number of bytes, two at a time, and then none.
 #[derive(Drop)]
 struct Narrow {
     room: usize,

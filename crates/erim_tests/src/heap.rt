@@ -4,7 +4,7 @@ use crate::calls::{CALLER, CLOSED, Caller, GATE, OPEN, check_answers};
 use std::alloc::Global;
 use std::process::Abort;
 
-/// A trusted heap of two pages at 0x407000, and one of a page behind it.
+/// A trusted heap of two pages at 0x407000, and one of a page after it.
 const RECORDS: &str = "1 402000 1000, 3 40200c 0, 4 409000 1000, 4 407000 2000";
 
 /// talloc is 3e8, tfree 3e9.

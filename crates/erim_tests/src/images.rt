@@ -34,9 +34,9 @@ const TRUST: &str = "\
 796:4=1 800:4=1 804:8=402000 812:8=1000
 820:4=3 824:4=1 828:8=40200c";
 
-/// With them a functions note of 60 bytes behind the trust note: 256 bytes from 0x401000 on, and
-/// the page 0x402000. The size of both notes; sizes, type, name, version and count; start and
-/// length of each.
+/// With them a functions note of 60 bytes after the trust note: 256 bytes from 0x401000 on, and the
+/// page 0x402000. The size of both notes; sizes, type, name, version and count; start and length of
+/// each.
 const FUNCTIONS: &str = "\
 208:8=88 844:4=6 848:4=28 852:4=2 856:8=464d495245 864:4=1 868:4=2
 872:8=401000 880:8=100 888:8=402000 896:8=1000";
@@ -275,10 +275,15 @@ pub fn image_with(rt: &impl Abort, alloc: Global, fields: &[&str]) -> Vec<u8> {
     bytes
 }
 
-/// Looks for what bytes are read as: `accepted`, or the line of the first fault.
+/// Looks for what bytes are read as: `accepted`, and a copy of the image has them too; or the line
+/// of the first fault.
 fn check_read(rt: &impl Abort, alloc: Global, what: &str, bytes: &[u8], want: &str) {
     match read_image(alloc, bytes) {
-        Ok(_) => assert!(rt; want == "accepted", "{what}"),
+        Ok(image) => {
+            assert!(rt; want == "accepted", "{what}");
+            let copy = image.copy().expect(rt, what);
+            assert!(rt; copy.bytes() == bytes, "{what}");
+        }
         Err(fault) => {
             let line = fault_line(alloc, &fault).expect(rt, what);
             let text = line.as_str().strip_prefix("erim: image ").expect(rt, what);

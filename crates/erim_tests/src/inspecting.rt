@@ -9,8 +9,8 @@ use std::process::Abort;
 const INSPECT: &str = "erim inspect image";
 
 /// The segments of an image and the records of its trust note, and what is unsafe in it. The gates
-/// compare EAX with a value behind their WRPKRU, and end the program unless it is that; the gate in
-/// begins trusted text, and its WRPKRU stands at its tenth byte. The check behind XRSTOR asks bit 9
+/// compare EAX with a value after their WRPKRU, and end the program unless it is that; the gate in
+/// begins trusted text, and its WRPKRU stands at its tenth byte. The check after XRSTOR asks bit 9
 /// of EAX.
 const ROWS: &str = "\
 no sequence | 401000 5 1 0 90 | - | -
@@ -79,7 +79,7 @@ fn unsafe_sequences(rt: HostRuntime) {
     }
 }
 
-/// A file of so many zeros, and its line.
+/// A file of a given number of zeros, and its line.
 fn check_zeros(rt: &impl Abort, alloc: Global, length: usize, text: &str) {
     let mut bytes = Vec::new(alloc);
     bytes.resize(length, 0).expect(rt, "memory");

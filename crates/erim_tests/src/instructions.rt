@@ -422,7 +422,7 @@ fn locates_the_parts(rt: HostRuntime) {
     }
 }
 
-/// The line of the greatest parts is whole, and stands behind what was there.
+/// The line of the greatest parts is whole, and stands after what was there.
 #[test]
 fn writes_the_longest_line(rt: HostRuntime) {
     let place = Place::At(Mem {

@@ -9,8 +9,8 @@ use image_gen::{Mark, Part, lay_image};
 use std::alloc::Global;
 use std::process::Abort;
 
-/// What a page or two begin with: `PLACE BYTES`, for one place after the other, with `+` between them.
-/// Zeros stand up to each place.
+/// What a page or two begin with: `PLACE BYTES`, for one place after the other, with `+` between
+/// them. Zeros stand up to each place.
 fn page_bytes(rt: &impl Abort, alloc: Global, stretches: &str) -> Vec<u8>
     ensures { length result.items ≤ 8192 }
 {
@@ -28,7 +28,7 @@ fn page_bytes(rt: &impl Abort, alloc: Global, stretches: &str) -> Vec<u8>
 }
 
 /// A segment: `ADDRESS FLAGS PAGES STRETCHES`. The flags are readable 4, writable 2 and executable
-/// 1. In memory it has so many pages, in the file the stretches.
+/// 1. In memory it has a given number of pages, in the file the stretches.
 fn part(rt: &impl Abort, alloc: Global, segment: &str) -> Part
     ensures { length result.bytes.items ≤ 8192 }
 {

@@ -3,9 +3,9 @@
 //!
 //! They stand in a crate of their own, since a crate with tests is proved twice. `files`, `images`,
 //! `instructions`, `journals`, `turns` and `words` call libraries, `threads` those and the program;
-//! the others call it (`calling`), `heap` and `mapping` by a program that makes the calls of a table
-//! (`calls`). Rows are text (`rows`), also those that images are laid out from (`laying`) and then
-//! run (`run_rows`). Each call that allocates is made at least once where it succeeds.
+//! the others call it (`calling`), `heap` and `mapping` by a program that makes the calls of a
+//! table (`calls`). Rows are text (`rows`), also those that images are laid out from (`laying`) and
+//! then run (`run_rows`). Each call that allocates is made at least once where it succeeds.
 #![tactic(auto)]
 
 #[cfg(test)]
@@ -23,6 +23,8 @@ mod faults;
 #[cfg(test)]
 mod files;
 #[cfg(test)]
+mod generated;
+#[cfg(test)]
 mod heap;
 #[cfg(test)]
 mod images;
@@ -34,8 +36,6 @@ mod instructions;
 mod journals;
 #[cfg(test)]
 mod laying;
-#[cfg(test)]
-mod made;
 #[cfg(test)]
 mod mapping;
 #[cfg(test)]

@@ -9,16 +9,16 @@ use std::process::Abort;
 /// xrstor [0x7FFEE000], which leaves PKRU as it is, with its check, and jmp to 0x401000.
 const ORIGIN: &str = "0fae2c2500e0fe7f 0fbae0097307b8e70000000f05 e9e6dfffff";
 
-/// The records. Behind the entry 0x40220C an open thread leaves trusted text for 0x403000. There is
+/// The records. After the entry 0x40220C an open thread leaves trusted text for 0x403000. There is
 /// trusted data at 0x406000.
 const RECORDS: &str = "1 402000 1000, 2 406000 1000, 3 40200c 0, 3 40220c 0";
 
-/// Where the calls are made by an open thread behind an XRSTOR that is its origin.
+/// Where the calls are made by an open thread after an XRSTOR that is its origin.
 const PINNING: u64 = 0x402200;
 
-/// Calls and their answers. 22 pages are mapped at the start, and there are 1,024 frames. The numbers
-/// of mmap, mprotect and munmap are 9, a and b, those of pkey_mprotect, pkey_alloc and pkey_free 149,
-/// 14a and 14b.
+/// Calls and their answers. 22 pages are mapped at the start, and there are 1,024 frames. The
+/// numbers of mmap, mprotect and munmap are 9, a and b, those of pkey_mprotect, pkey_alloc and
+/// pkey_free 149, 14a and 14b.
 const CLOSED_ROWS: &str = "\
 mmap takes the lowest pages that fit
 | 9 0 2000 3 22 = 10000000, 9 0 1000 3 22 = 10002000, b 10000000 1000 = 0,

@@ -206,7 +206,7 @@ nothing unsafe | 401000 5 1 0 bf03000000b8e70000000f05 | - | - | 401000 | 0 | 4 
 
 const REWRITE: &str = "erim rewrite image out";
 
-/// The image of a row up to its entry point and fields, and what stands behind these.
+/// The image of a row up to its entry point and fields, and what stands after these.
 fn row_image<'a>(rt: &impl Abort, alloc: Global, row: &'a str) -> (Vec<u8>, &'a str) {
     let (_what, rest) = cell(rt, row);
     let (segments, rest) = cell(rt, rest);
@@ -370,7 +370,7 @@ fn many(rt: &impl Abort, alloc: Global, page: u64, count: usize) -> String {
     segment
 }
 
-/// Rewrites what has so many sites on eight pages, at most 1,638 on each two.
+/// Rewrites what has a given number of sites on eight pages, at most 1,638 on each two.
 fn check_many(rt: &impl Abort, alloc: Global, count: usize, status: u8, text: &str) {
     let mut segments = String::new(alloc);
     let mut functions = String::new(alloc);
@@ -399,7 +399,7 @@ fn most_copies(rt: HostRuntime) {
     check_many(&rt, rt.alloc(), 5042, 8, text);
 }
 
-/// Rewrites what has so many sites before a page of data.
+/// Rewrites what has a given number of sites before a page of data.
 fn check_before(rt: &impl Abort, alloc: Global, count: usize, status: u8, text: &str) {
     let mut segments = many(rt, alloc, 0x401000, count);
     write!(segments, ", 404000 6 1 0 41").expect(rt, "memory");

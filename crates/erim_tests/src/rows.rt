@@ -8,13 +8,13 @@ pub fn rows(rt: &impl Abort, alloc: Global, text: &str) -> String {
     text.replace(alloc, "\n|", " |").expect(rt, "memory")
 }
 
-/// The first cell of a row, and what stands behind it.
+/// The first cell of a row, and what stands after it.
 pub fn cell<'a>(rt: &impl Abort, row: &'a str) -> (&'a str, &'a str) {
     let (cell, rest) = row.split_once('|').expect(rt, row);
     (cell.trim(), rest.trim())
 }
 
-/// The first word of a cell, and what stands behind it.
+/// The first word of a cell, and what stands after it.
 pub fn word<'a>(rt: &impl Abort, cell: &'a str) -> (&'a str, &'a str) {
     let (word, rest) = cell.split_once(' ').expect(rt, cell);
     (word, rest.trim())
@@ -37,7 +37,7 @@ pub fn number(rt: &impl Abort, digits: &str) -> u64 {
     u64::from_str_radix(digits, 16).expect(rt, digits)
 }
 
-/// The lines of a text, which has `/` for the end of each and may have an end of its own behind it.
+/// The lines of a text, which has `/` for the end of each and may have an end of its own after it.
 pub fn lines(rt: &impl Abort, alloc: Global, text: &str) -> String {
     let mut lines = String::new(alloc);
     for line in text.split_terminator('/') {

@@ -33,7 +33,7 @@ fn check_row(rt: &impl Abort, alloc: Global, row: &str) {
     }
 }
 
-/// Looks for a journal of so many entries, or for none.
+/// Looks for a journal of a given number of entries, or for none.
 fn check_journal<S: Store>(rt: &impl Abort, alloc: Global, held: &mut S, entries: &str) {
     let mut journal = Vec::new(alloc);
     let saved = held.load("journal", u64::MAX, &mut journal).is_ok();
@@ -47,10 +47,10 @@ fn check_journal<S: Store>(rt: &impl Abort, alloc: Global, held: &mut S, entries
     );
 }
 
-/// Runs the image of each row, and replays each journal that was saved. A row, up to `;` at a line's
-/// end, has what it shows; the segments of an image and the records of its trust note; its entry
-/// point, the status, and how many entries the saved journal has; the text, with `/` for the end of
-/// a line.
+/// Runs the image of each row, and replays each journal that was saved. A row, up to `;` at a
+/// line's end, has what it shows; the segments of an image and the records of its trust note; its
+/// entry point, the status, and how many entries the saved journal has; the text, with `/` for the
+/// end of a line.
 pub fn check_rows(rt: &impl Abort, alloc: Global, rows: &str) {
     for row in rows.split(";\n") {
         check_row(rt, alloc, row);

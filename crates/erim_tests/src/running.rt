@@ -5,9 +5,9 @@ use crate::run_rows::check_rows;
 /// The segments of an image and the records of its trust note; its entry point, the status, and
 /// how many entries the saved journal has; the text, with `/` for the end of a line.
 ///
-/// Trusted text at 0x402000 has the entry 0x40200C behind its gate. It opens the trusted key,
-/// writes the 8 bytes of trusted data at 0x404000, and leaves; in the escape it goes on by je, back
-/// to 0x401FF0. Those that run into it have xor eax, eax at the end of their page.
+/// Trusted text at 0x402000 has the entry 0x40200C after its gate. It opens the trusted key, writes
+/// the 8 bytes of trusted data at 0x404000, and leaves; in the escape it goes on by je, back to
+/// 0x401FF0. Those that run into it have xor eax, eax at the end of their page.
 const ROWS: &str = "\
 leaves with 0
 | 401000 5 1 0 bf00000000b8e70000000f05 | - | 401000 0 4

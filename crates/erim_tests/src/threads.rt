@@ -103,13 +103,14 @@ with the last instruction of trusted text
 thread 0 steps 7 pkru 0x55555550/worker 0 steps 7/";
 
 /// Two threads: the first makes the second, which goes through a gate in outside trusted text, with
-/// the check behind it, on the page at 0x403000. The first calls on that page meanwhile.
+/// the check after it, on the page at 0x403000. The first calls on that page meanwhile.
 const RACING: &str = "\
 401000 5 1 0 bf000f0500b8380000000f0585c00f84ec1f0000bf00304000be00100000CALL0f05, \
 403000 5 1 0 31c931d2VALUE0f01ef 3d545555557407b8e70000000f05 ebfe";
 
-/// The same with the check on a page of its own, at 0x404000, which may be written and executed. The
-/// first thread takes that page's execution away, writes its first byte, and asks for execution again.
+/// The same with the check on a page of its own, at 0x404000, which may be written and executed.
+/// The first thread takes that page's execution away, writes its first byte, and asks for execution
+/// again.
 const TAKING: &str = "\
 401000 5 1 0 bf000f0500b8380000000f0585c00f84e02f0000bf00404000be00100000ba03000000b80a0000000f05
 c607BYTEba05000000b80a0000000f05, \
@@ -135,7 +136,8 @@ fn image(rt: &impl Abort, alloc: Global, bytes: &[u8]) -> Image {
     read_image(alloc, bytes).ok().expect(rt, "an image")
 }
 
-/// The process of an image of these segments, with few steps and pages.
+/// The process of an image of these segments, with few steps and pages. It has the setup of which a
+/// copy was made before.
 fn started(rt: &impl Abort, alloc: Global, segments: &str) -> Process {
     let bytes = laid(rt, alloc, segments, "-", 0x401000);
     let setup = Setup {
@@ -143,11 +145,14 @@ fn started(rt: &impl Abort, alloc: Global, segments: &str) -> Process {
         budget: 64,
         frames: 64,
     };
-    Process::start(alloc, setup).ok().expect(rt, segments)
+    let copy = setup.copy().expect(rt, segments);
+    let process = Process::start(alloc, setup).ok().expect(rt, segments);
+    assert!(rt; process.same_setup(&copy), "{segments}");
+    process
 }
 
-/// Runs an image, so many steps of a thread in a row, and looks for the row's output, its end and
-/// the steps of each thread.
+/// Runs an image, a given number of steps of a thread in a row, and looks for the row's output, its
+/// end and the steps of each thread.
 fn check_turns(rt: &impl Abort, alloc: Global, bytes: &[u8], row: &str) {
     let mut words = row.split_whitespace();
     let quantum = words.next().expect(rt, row).parse().expect(rt, row);
@@ -213,7 +218,7 @@ fn runs(rt: HostRuntime) {
     check_rows(&rt, rt.alloc(), ROWS);
 }
 
-/// The two threads where the second stands before its check, behind the gate.
+/// The two threads where the second stands before its check, after the gate.
 fn racing(rt: &impl Abort, alloc: Global, call: &str, value: &str) -> Process {
     let segments = RACING.replace(alloc, "CALL", call).expect(rt, call);
     before_check(rt, alloc, segments.as_str(), value)
@@ -228,7 +233,7 @@ fn before_check(rt: &impl Abort, alloc: Global, segments: &str, value: &str) -> 
     process
 }
 
-/// Makes so many steps of a thread.
+/// Makes a given number of steps of a thread.
 fn make(rt: &impl Abort, process: &mut Process, thread: u8, steps: u8) {
     for _ in 0..steps {
         assert!(rt; process.step_now(0, thread) == Stepped::Made);
@@ -312,8 +317,8 @@ fn races_in_every_order(rt: HostRuntime) {
     }
 }
 
-/// The process where the second thread stands in its check, and the first has written this byte into
-/// the check's page while it wasn't published.
+/// The process where the second thread stands in its check, and the first has written this byte
+/// into the check's page while it wasn't published.
 fn taking(rt: &impl Abort, alloc: Global, byte: &str) -> Process {
     let segments = TAKING.replace(alloc, "BYTE", byte).expect(rt, byte);
     let mut process = started(rt, alloc, segments.as_str());

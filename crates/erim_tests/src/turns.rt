@@ -30,7 +30,7 @@ fn step_by(worker: u16) -> Entry {
     }
 }
 
-/// Runs the image with turns of so many steps.
+/// Runs the image with turns of a given number of steps.
 fn check_run(rt: &impl Abort, alloc: Global, quantum: u32)
     requires { 0 < quantum }
 {

@@ -4,7 +4,7 @@ use command_words::{Command, command_of};
 use std::alloc::Global;
 use std::process::Abort;
 
-/// In each row the words, with spaces between them, and behind `|` the command with its names and
+/// In each row the words, with spaces between them, and after `|` the command with its names and
 /// numbers, or `none`. `""` is an empty word.
 const ROWS: &str = "\
 erim inspect a.img | inspect a.img

@@ -1,6 +1,7 @@
 -- Where the published code is safe, the code near a page decides what is unsafe with it.
 use Rattle.std.proofs.Common.{◌≡◌, ℕ, ◌+◌, ◌*◌, ◌/◌, ◌<◌, ◌≤◌, ◌^◌, ◌⊎◌, Option, Some, None}
-use Rattle.std.proofs.Common.{Bool, true, false, nat_lt, refl, sym, ◌∙◌, arith, inl, inr, eqb, eqb-true}
+use Rattle.std.proofs.Common.{Bool, true, false, nat_lt, refl, sym, ◌∙◌, arith, inl, inr, eqb}
+use Rattle.std.proofs.Common.{eqb-true}
 use Rattle.std.specs.Prelude.{if◌then◌else◌}
 use Rattle.std.proofs.lemmas.Bool.{cases_Bool, cases_lt, ltb-true, ltb-false}
 use Rattle.erim_defs.specs.declared.found.Found.{Found}

@@ -1,6 +1,7 @@
 -- The code of a window has the bytes of the code with its page, near that page.
 use Rattle.std.proofs.Common.{◌≡◌, ◌≢◌, ℕ, ◌+◌, ◌-◌, ◌*◌, ◌/◌, ◌<◌, ◌≤◌, ◌&&◌, Option, Some}
-use Rattle.std.proofs.Common.{None, Bool, true, false, cond, List, length, take, drop, refl, sym, ap}
+use Rattle.std.proofs.Common.{None, Bool, true, false, cond, List, length, take, drop, refl, sym}
+use Rattle.std.proofs.Common.{ap}
 use Rattle.std.proofs.Common.{◌∙◌, arith, inl, inr, eqb, eqb-true, eq-eqb, nat_lt, length-drop}
 use Rattle.std.specs.Prelude.{slice_get, slice_index, slice_range}
 use Rattle.std.proofs.lemmas.Bool.{cases_Bool, cases_lt, lt-ltb, ltb-true, and_parts}

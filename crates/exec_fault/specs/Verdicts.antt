@@ -4,7 +4,7 @@ use Rattle.std.specs.Prelude.{slice_index, nat_lt, if◌then◌else◌}
 use Rattle.erim_defs.specs.declared.found.Found.{Found}
 use Rattle.erim_defs.specs.declared.machine.Rights.{Rights}
 use Rattle.erim_defs.specs.Inspection.Code.{Code}
-use Rattle.erim_defs.specs.Machine.Pages.{ByteMap, published_rights, taken_back}
+use Rattle.erim_defs.specs.Machine.Pages.{ByteMap, published_rights, taken_back_rights}
 use Rattle.exec_fault.specs.declared.answer.Verdict.{Verdict}
 use Rattle.exec_fault.specs.declared.answer.Verdict.TheVariants.{Publish, Refuse}
 
@@ -21,9 +21,9 @@ published_page (Some rights) = Some (published_rights rights)
 -- a page that is mapped takes its publication back
 abbrev pub taken_back_page : Option Rights → Option Rights
 taken_back_page None = None
-taken_back_page (Some rights) = Some (taken_back rights)
+taken_back_page (Some rights) = Some (taken_back_rights rights)
 
--- two codes have the same bytes on page q, and on the 64 before and behind it
+-- two codes have the same bytes on page q, and on the 64 before and after it
 abbrev pub AgreesNear : Code → Code → ℕ → Type 0
 AgreesNear c d q = (a : ℕ) → 4096 * q ≤ a + 64 → a < 4096 * q + 4160 → c a ≡ d a
 
@@ -34,7 +34,7 @@ pub record HoldsPages (xs : List ℕ) (bytes : ByteMap) (q : ℕ) : Type 0 where
   pub behind : (i : ℕ) → i < 4096 → slice_index xs (8192 + i) ≡ bytes (4096 * (q + 1) + i)
 
 -- where the code of a window begins and ends in it, and its address: the page before is a part of
--- it or not, and so is the page behind
+-- it or not, and so is the page after
 abbrev pub window_start : Bool → ℕ
 window_start before = if before then 0 else 4096
 

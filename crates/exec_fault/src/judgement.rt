@@ -5,7 +5,7 @@ ghost use Rattle.erim_defs.specs.Inspection.Unsafe.{first_unsafe};
 ghost use Rattle.erim_defs.specs.Machine.Access.{whole};
 ghost use Rattle.erim_defs.specs.Machine.Isolation.{IsSafeCode};
 ghost use Rattle.erim_defs.specs.Machine.Pages.{code_with, published_code, with_value_at};
-ghost use Rattle.page_store.specs.Answers.{rights_in};
+ghost use Rattle.erim_defs.specs.Machine.Access.{rights_in};
 ghost use Rattle.exec_fault.specs.Verdicts.{on_page, published_page, taken_back_page, verdict_of};
 
 use crate::answer::Verdict;
@@ -19,7 +19,7 @@ use page_store::{Memory, Pages};
 use safe_occurrence::next_unsafe;
 
 /// The first unsafe sequence from before a page on that the code near the page shows. The published
-/// code itself is safe, so one on the page is the first of all with the page, and one behind is
+/// code itself is safe, so one on the page is the first of all with the page, and one after is
 /// none.
 fn first_near<P: Pages>(pages: &P, page: u64, trust: &Trust) -> Option<Found>
     requires low { page < 2 ^ 35 }
@@ -58,7 +58,7 @@ pub fn publish<P: Pages>(pages: &mut P, page: u64)
     ensures frames { P.frames pages.new ≡ P.frames pages.old }
 {
     if let Some(rights) = pages.rights(page) {
-        pages.set_rights(page, rights.published());
+        pages.set_rights(page, rights.published_rights());
     }
 }
 
@@ -70,6 +70,6 @@ pub fn take_back<P: Pages>(pages: &mut P, page: u64)
     ensures frames { P.frames pages.new ≡ P.frames pages.old }
 {
     if let Some(rights) = pages.rights(page) {
-        pages.set_rights(page, rights.taken_back());
+        pages.set_rights(page, rights.taken_back_rights());
     }
 }

@@ -1,9 +1,10 @@
 //! The code near a page: what is published of the pages beside it, and the page itself.
 
-ghost use Rattle.std.specs.Prelude.{◌≡◌, ◌+◌, ◌*◌, ◌<◌, ◌≤◌, ◌^◌, ◌&&◌, ℕ, slice_index, nat_lt, true};
+ghost use Rattle.std.specs.Prelude.{◌≡◌, ◌+◌, ◌*◌, ◌<◌, ◌≤◌, ◌^◌, ◌&&◌, ℕ, slice_index, nat_lt};
+ghost use Rattle.std.specs.Prelude.{true};
 ghost use Rattle.std.specs.Prelude.{◌-◌};
 ghost use Rattle.erim_defs.specs.Machine.Pages.{is_published};
-ghost use Rattle.page_store.specs.Answers.{rights_in};
+ghost use Rattle.erim_defs.specs.Machine.Access.{rights_in};
 ghost use Rattle.exec_fault.specs.Verdicts.{HoldsPages, window_base, window_end, window_from};
 ghost use Rattle.exec_fault.specs.Verdicts.{window_start};
 
@@ -38,7 +39,7 @@ pub(crate) fn window_start(before: bool) -> usize
     if before { 0 } else { 4096 }
 }
 
-/// Where it ends: with the page behind, or with the page.
+/// Where it ends: with the page after, or with the page.
 pub(crate) fn window_end(behind: bool) -> usize
     ensures end { result ≡ window_end behind }
     ensures low { 8192 ≤ result }
@@ -85,7 +86,7 @@ fn copy_in<P: Pages>(pages: &P, page: u64, into: &mut [u8; WINDOW_SIZE], place: 
     into[place..place + 4096].copy_from_slice(&copy.bytes);
 }
 
-/// Lays out a page between the one before it and the one behind it. Before page 0 stands page 0.
+/// Lays out a page between the one before it and the one after it. Before page 0 stands page 0.
 pub(crate) fn lay_window<P: Pages>(pages: &P, page: u64, into: &mut [u8; WINDOW_SIZE])
     requires { page < 2 ^ 35 }
     ensures { HoldsPages into.new (P.bytes pages.now) page }

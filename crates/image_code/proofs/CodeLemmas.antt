@@ -17,7 +17,7 @@ use Rattle.erim_defs.specs.Inspection.Trust.{TrustValue}
 use Rattle.erim_defs.proofs.CodeLemmas.{laid_at_before, laid_at_past}
 use Rattle.erim_defs.proofs.OccurrenceLemmas.{Agrees, occurrence_absent}
 use Rattle.erim_defs.proofs.UnsafeLemmas.{unsafe_absent, unsafe_agrees}
-use Rattle.image_code.specs.declared.ranges.PageRange.{PageRange}
+use Rattle.image_code.specs.declared.ranges.PageBounds.{PageBounds}
 use Rattle.image_code.specs.declared.stretch.Stretch.{Stretch}
 use Rattle.image_code.specs.Ranges.{IsRange, LaysRange, NoneBetween}
 use Rattle.image_code.specs.Stretches.{AreApart, LiesBefore, code_in, stretch_code, stretch_end}
@@ -93,7 +93,7 @@ lays_begins old c first s base apart before none = record {
 
 -- the next range of pages is laid as a stretch
 pub lays_next : (old : List Stretch) (c : Code) (test : ℕ
-    → Bool) (from : ℕ) (new : List Stretch) (pages : PageRange) (s :
+    → Bool) (from : ℕ) (new : List Stretch) (pages : PageBounds) (s :
     Stretch) → StandsOn test c → LaysTo old c from new
     → from ≤ pages.first → NoneBetween test from pages.first → IsRange test pages
     → s.base ≡ 4096 * pages.first → LaysRange c pages s.bytes.items
@@ -179,7 +179,7 @@ none_before (s ∷ ss) a before =
 apart_tail : (s : Stretch) (ss : List Stretch) → AreApart (s ∷ ss) → AreApart ss
 apart_tail s ss apart = λ i j d lt within. apart (suc i) (suc j) d (omega arith) (omega arith)
 
--- a stretch has the bytes of the code on its pages and the page behind them
+-- a stretch has the bytes of the code on its pages and the page after them
 stretch_agrees : (ss : List Stretch) (k : ℕ) (d : Stretch) → AreApart ss → k < length ss
     → Agrees (stretch_code (get_or ss k d)) (code_in ss) (get_or ss k d).base
     (stretch_end (get_or ss k d) + 4096)
@@ -237,7 +237,7 @@ IsClear trust c from s = (a : ℕ) → from ≤ a → s.base ≤ a → a < stret
 absent_safe : (trust : TrustValue) (c : Code) (a : ℕ) → c a ≡ None → unsafe_at trust c a ≡ None
 absent_safe trust c a none = unsafe_absent trust c a (occurrence_absent c a none)
 
--- on its pages a stretch alone tells what is unsafe
+-- on its pages a stretch alone says what is unsafe
 stretch_tells : (trust : TrustValue) (ss : List Stretch) (k : ℕ) (d : Stretch) (a : ℕ) → AreApart ss
     → k < length ss → (get_or ss k d).base ≤ a → a < stretch_end (get_or ss k d)
     → unsafe_at trust (stretch_code (get_or ss k d)) a ≡ unsafe_at trust (code_in ss) a
@@ -253,7 +253,7 @@ pub clear_stretch : (trust : TrustValue) (ss : List Stretch) (k : ℕ) (d : Stre
 clear_stretch trust ss k d from apart lt none =
     λ a ahead low high. sym (stretch_tells trust ss k d a apart lt low high) ∙ none a ahead high
 
--- what is found first in a stretch behind clear ones is the first of all
+-- what is found first in a stretch after clear ones is the first of all
 pub first_of_stretch : (trust : TrustValue) (ss : List Stretch) (k : ℕ) (d : Stretch) (from : ℕ)
     (o : Found) → AreApart ss → k < length ss → All (IsClear trust (code_in ss) from) (take k ss)
     → IsFirstUnsafe trust (stretch_code (get_or ss k d)) from (stretch_end (get_or ss k d)) (Some o)

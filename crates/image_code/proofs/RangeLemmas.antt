@@ -15,7 +15,7 @@ use Rattle.erim_defs.specs.Inspection.Image.{shares_page, segment_code, code_of}
 use Rattle.erim_defs.proofs.CodeLemmas.{laid_at_place}
 use Rattle.erim_defs.proofs.PageLemmas.{apart_absent, touches_from, byte_or_zero, code_of_absent}
 use Rattle.erim_defs.proofs.PageLemmas.{code_of_present, code_of_more}
-use Rattle.image_code.specs.declared.ranges.PageRange.{PageRange}
+use Rattle.image_code.specs.declared.ranges.PageBounds.{PageBounds}
 use Rattle.image_code.specs.Ranges.{IsFirstPage, IsRange, LaysRange, part_byte_or}
 
 -- tests that answer alike have one first page
@@ -91,14 +91,14 @@ copied_byte bytes ss i d a old new apart lt executable placed was is =
     ]
 
 -- the bytes of a range, so far as the first segments have them
-pub record HasParts (bytes : List ℕ) (ss : List Segment) (pages : PageRange) (code : List ℕ) :
+pub record HasParts (bytes : List ℕ) (ss : List Segment) (pages : PageBounds) (code : List ℕ) :
     Type 0 where
   pub long : length code ≡ 4096 * (pages.end - pages.first)
   pub parts : (k : ℕ) → k < length code
       → get_or code k 0 ≡ byte_or_zero (code_of bytes ss (4096 * pages.first + k))
 
 -- a segment that isn't executable leaves them
-pub passed_parts : (bytes : List ℕ) (ss : List Segment) (i : ℕ) (d : Segment) (pages : PageRange)
+pub passed_parts : (bytes : List ℕ) (ss : List Segment) (i : ℕ) (d : Segment) (pages : PageBounds)
     (code : List ℕ) → i < length ss → is_executable (get_or ss i d) ≡ false
     → HasParts bytes (take i ss) pages code → HasParts bytes (take (i + 1) ss) pages code
 passed_parts bytes ss i d pages code lt other has =
@@ -109,7 +109,7 @@ passed_parts bytes ss i d pages code lt other has =
     }
 
 -- one whose file part was copied adds its bytes
-pub copied_parts : (bytes : List ℕ) (ss : List Segment) (i : ℕ) (d : Segment) (pages : PageRange)
+pub copied_parts : (bytes : List ℕ) (ss : List Segment) (i : ℕ) (d : Segment) (pages : PageBounds)
     (code new : List ℕ) → All (IsPlaced (length bytes)) ss
     → AllPairs (λ s t. shares_page s t ≡ false) ss → i < length ss
     → is_executable (get_or ss i d) ≡ true → HasParts bytes (take i ss) pages code
@@ -167,7 +167,7 @@ pub part_at : (bytes : List ℕ) (place n j : ℕ) → j < n
 part_at bytes place n j lt = get_or-take n (drop place bytes) j 0 lt ∙ get_or-drop place bytes j 0
 
 -- with all segments they are the range's
-pub range_laid : (bytes : List ℕ) (ss : List Segment) (pages : PageRange) (code : List ℕ)
+pub range_laid : (bytes : List ℕ) (ss : List Segment) (pages : PageBounds) (code : List ℕ)
     → IsRange (is_page_of is_executable ss) pages → HasParts bytes ss pages code
     → LaysRange (code_of bytes ss) pages code
 range_laid bytes ss pages code is has = record { long = has.long; same = same }

@@ -14,7 +14,7 @@ use Rattle.erim_defs.specs.Inspection.Image.{image_trust}
 use Rattle.erim_defs.specs.Inspection.Image.{text_of}
 use Rattle.erim_defs.specs.Inspection.Trust.{TrustValue, in_text_of}
 use Rattle.erim_defs.proofs.CodeLemmas.{laid_at_before, laid_at_past, laid_at_place}
-use Rattle.image_code.specs.declared.ranges.PageRange.{PageRange}
+use Rattle.image_code.specs.declared.ranges.PageBounds.{PageBounds}
 use Rattle.image_code.specs.declared.stretch.Stretch.{Stretch}
 use Rattle.image_code.specs.Ranges.{IsRange, LaysRange}
 use Rattle.image_code.specs.Stretches.{AddsCode, AreApart, IsWithin, LiesBefore, code_in}
@@ -26,7 +26,7 @@ use Rattle.erim_defs.proofs.AcceptedLemmas.{text_page}
 -- ---- a part of a stretch
 
 -- some pages of a stretch have its bytes
-pub part_lays : (s : Stretch) (pages : PageRange) (i n : ℕ) → i ≡ 4096 * pages.first - s.base
+pub part_lays : (s : Stretch) (pages : PageBounds) (i n : ℕ) → i ≡ 4096 * pages.first - s.base
     → n ≡ 4096 * pages.end - s.base - i → IsWithin s pages
     → LaysRange (stretch_code s) pages (take n (drop i s.bytes.items))
 part_lays s pages i n i_is n_is is = record { long = long; same = same }
@@ -62,7 +62,7 @@ part_lays s pages i n i_is n_is is = record { long = long; same = same }
         here ∙ ap Some byte ∙ sym there
 
 -- a range of trusted text before the end of a stretch lies in it
-pub text_within : (trust : TrustValue) (s : Stretch) (from end : ℕ) (pages : PageRange)
+pub text_within : (trust : TrustValue) (s : Stretch) (from end : ℕ) (pages : PageBounds)
     → s.base ≤ 4096 * from → 4096 * end ≡ stretch_end s → from ≤ pages.first
     → IsRange (is_text_below trust end) pages → IsWithin s pages
 text_within trust s from end pages base ends low is =
@@ -118,7 +118,7 @@ text_stands trust s end paged ends a none = elim (cases_lt (a / 4096) end) [
     shut false q is both = refl
 
 -- on a range of them the stretch has the text
-pub text_lays : (trust : TrustValue) (s : Stretch) (end : ℕ) (pages : PageRange) (bytes : List ℕ)
+pub text_lays : (trust : TrustValue) (s : Stretch) (end : ℕ) (pages : PageBounds) (bytes : List ℕ)
     → IsPaged trust → IsRange (is_text_below trust end) pages
     → LaysRange (stretch_code s) pages bytes
     → LaysRange (text_of trust (stretch_code s)) pages bytes

@@ -4,7 +4,7 @@ use Rattle.std.specs.Prelude.{true, false, Option, Some, None, List, length, sli
 use Rattle.std.specs.Prelude.{if◌then◌else◌}
 use Rattle.erim_defs.specs.declared.segment.Segment.{Segment}
 use Rattle.erim_defs.specs.Inspection.Code.{Code, laid_at}
-use Rattle.image_code.specs.declared.ranges.PageRange.{PageRange}
+use Rattle.image_code.specs.declared.ranges.PageBounds.{PageBounds}
 
 -- the first page from a page on that passes a test, or there is none
 abbrev pub IsFirstPage : (ℕ → Bool) → ℕ → Option ℕ → Type 0
@@ -18,8 +18,8 @@ pub record GoesOn (test : ℕ → Bool) (page end : ℕ) : Type 0 where
   pub user : end ≤ 2 ^ 35
   pub within : (at : ℕ) → page ≤ at → at < end → test at ≡ true
 
--- the pages of a range pass a test, and the one behind it doesn't
-pub record IsRange (test : ℕ → Bool) (pages : PageRange) : Type 0 where
+-- the pages of a range pass a test, and the one after it doesn't
+pub record IsRange (test : ℕ → Bool) (pages : PageBounds) : Type 0 where
   pub some : pages.first < pages.end
   pub user : pages.end ≤ 2 ^ 35
   pub within : (page : ℕ) → pages.first ≤ page → page < pages.end → test page ≡ true
@@ -30,13 +30,13 @@ abbrev pub NoneBetween : (ℕ → Bool) → ℕ → ℕ → Type 0
 NoneBetween test low high = (page : ℕ) → low ≤ page → page < high → test page ≡ false
 
 -- the first range from a page on, or no page passes the test from there on
-abbrev pub IsNextRange : (ℕ → Bool) → ℕ → Option PageRange → Type 0
+abbrev pub IsNextRange : (ℕ → Bool) → ℕ → Option PageBounds → Type 0
 IsNextRange test from None = (page : ℕ) → from ≤ page → test page ≡ false
 IsNextRange test from (Some pages) = (from ≤ pages.first) × NoneBetween test from pages.first
     × IsRange test pages
 
 -- the bytes of a code on all pages of a range
-pub record LaysRange (c : Code) (pages : PageRange) (bytes : List ℕ) : Type 0 where
+pub record LaysRange (c : Code) (pages : PageBounds) (bytes : List ℕ) : Type 0 where
   pub long : length bytes ≡ 4096 * (pages.end - pages.first)
   pub same : (a : ℕ) → 4096 * pages.first ≤ a → a < 4096 * pages.end
       → laid_at (4096 * pages.first) bytes a ≡ c a

@@ -99,7 +99,7 @@ fn stretches_of(alloc: Global, bytes: &[u8], segments: &[Segment]) -> Result<Vec
         let bytes = range_bytes(alloc, bytes, segments, &pages)?;
         let base = PAGE_SIZE * pages.first;
         stretches.push(Stretch { base, bytes })?;
-        // The page behind a range is none of it, nor of the next one.
+        // The page after a range is none of it, nor of the next one.
         from = pages.end + 1;
     }
     Ok(stretches)

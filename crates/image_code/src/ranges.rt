@@ -9,10 +9,10 @@ use erim_defs::Segment;
 
 /// A range of pages, by their numbers.
 #[derive(Clone, Copy)]
-pub struct PageRange {
+pub struct PageBounds {
     /// Its first page.
     pub first: u64,
-    /// The page behind its last.
+    /// The page after its last.
     pub end: u64,
 }
 
@@ -68,7 +68,7 @@ fn end_at(segments: &[Segment], page: u64) -> Option<u64>
     None
 }
 
-/// The first page behind a page that executable segments touch which they don't touch.
+/// The first page after a page that executable segments touch which they don't touch.
 #[tactic(auto, using(erim_defs::proofs::PageLemmas::pages_below))]
 fn range_end(segments: &[Segment], first: u64) -> u64
     requires user { All (λ s. IsTrue (is_in_user s)) segments.now }
@@ -83,13 +83,13 @@ fn range_end(segments: &[Segment], first: u64) -> u64
     end
 }
 
-/// The first range from the page `from` on: its pages are adjoining, and the one behind it is none
+/// The first range from the page `from` on: its pages are adjoining, and the one after it is none
 /// of an executable segment.
-pub fn next_range(segments: &[Segment], from: u64) -> Option<PageRange>
+pub fn next_range(segments: &[Segment], from: u64) -> Option<PageBounds>
     requires { All (λ s. IsTrue (is_in_user s)) segments.now }
     ensures { IsNextRange (is_page_of is_executable segments.now) from result }
 {
     let first = first_page_from(segments, from)?;
     let end = range_end(segments, first);
-    Some(PageRange { first, end })
+    Some(PageBounds { first, end })
 }

@@ -6,7 +6,7 @@ ghost use Rattle.erim_defs.specs.Inspection.Image.{IsPlaced, code_of, is_executa
 ghost use Rattle.erim_defs.specs.Inspection.Image.{shares_page};
 ghost use Rattle.image_code.specs.Ranges.{IsRange, LaysRange, part_byte_or};
 
-use crate::ranges::PageRange;
+use crate::ranges::PageBounds;
 use erim_defs::page::PAGE_SIZE;
 use erim_defs::{NoMemory, Segment};
 use std::alloc::Global;
@@ -44,7 +44,7 @@ pub fn range_bytes(
     alloc: Global,
     bytes: &[u8],
     segments: &[Segment],
-    pages: &PageRange,
+    pages: &PageBounds,
 ) -> Result<Vec<u8>, NoMemory>
     requires placed { All (IsPlaced (length bytes.now)) segments.now }
     requires apart { AllPairs (λ s t. shares_page s t ≡ false) segments.now }

@@ -2,7 +2,7 @@
 
 ghost use Rattle.std.specs.Prelude.{◌≡◌, ◌+◌, ◌*◌, ◌%◌, ◌≤◌, ◌^◌, IfOk, length};
 
-use crate::ranges::PageRange;
+use crate::ranges::PageBounds;
 use erim_defs::page::PAGE_SIZE;
 use erim_defs::{Found, NoMemory, Trust};
 use safe_occurrence::next_unsafe;
@@ -26,18 +26,18 @@ impl Stretch {
     ghost use Rattle.erim_defs.specs.Inspection.Unsafe.{IsFirstUnsafe};
 
     /// Its pages.
-    pub fn pages(&self) -> PageRange
+    pub fn pages(&self) -> PageBounds
         ensures first { 4096 * result.first ≡ self.now.base }
         ensures end { 4096 * result.end ≡ stretch_end self.now }
     {
-        PageRange {
+        PageBounds {
             first: self.base / PAGE_SIZE,
             end: (self.base + self.bytes.len() as u64) / PAGE_SIZE,
         }
     }
 
     /// The bytes of some of its pages.
-    pub fn part(&self, alloc: Global, pages: &PageRange) -> Result<Vec<u8>, NoMemory>
+    pub fn part(&self, alloc: Global, pages: &PageBounds) -> Result<Vec<u8>, NoMemory>
         requires { IsWithin self.now pages.now }
         ensures { IfOk result (λ part. LaysRange (stretch_code self.now) pages.now part.items) }
     {

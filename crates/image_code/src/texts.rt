@@ -4,7 +4,7 @@ ghost use Rattle.std.specs.Prelude.{◌≡◌, ◌<◌, ◌≤◌, ◌^◌, ◌&
 ghost use Rattle.image_code.specs.Ranges.{IsFirstPage, IsNextRange, IsRange};
 ghost use Rattle.image_code.specs.Texts.{is_text_below, is_text_page};
 
-use crate::ranges::PageRange;
+use crate::ranges::PageBounds;
 use erim_defs::Trust;
 use erim_defs::page::PAGE_SIZE;
 
@@ -21,7 +21,7 @@ fn text_start(trust: &Trust, from: u64, end: u64) -> Option<u64>
     None
 }
 
-/// The first page behind a page of trusted text that isn't trusted text, or `end` where all before
+/// The first page after a page of trusted text that isn't trusted text, or `end` where all before
 /// it are.
 fn text_end(trust: &Trust, first: u64, end: u64) -> u64
     requires user { end ≤ 2 ^ 35 }
@@ -37,11 +37,11 @@ fn text_end(trust: &Trust, first: u64, end: u64) -> u64
 }
 
 /// The first range of pages of trusted text from the page `from` on and before `end`.
-pub fn next_text(trust: &Trust, from: u64, end: u64) -> Option<PageRange>
+pub fn next_text(trust: &Trust, from: u64, end: u64) -> Option<PageBounds>
     requires { end ≤ 2 ^ 35 }
     ensures { IsNextRange (is_text_below trust.now end) from result }
 {
     let first = text_start(trust, from, end)?;
     let end = text_end(trust, first, end);
-    Some(PageRange { first, end })
+    Some(PageBounds { first, end })
 }

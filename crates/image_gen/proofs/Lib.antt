@@ -1,2 +1,5 @@
 pub mod PieceLemmas
 pub mod WholeLemmas
+pub mod LaidLemmas
+pub mod GeneratedLemmas
+pub mod GeneratedStart

@@ -11,7 +11,7 @@ use Rattle.erim_defs.specs.Output.LayImage.{part_piece, pieces, program_header}
 use Rattle.image_gen.specs.declared.part.Part.{Part}
 use Rattle.image_gen.specs.Parts.{header_bytes, part_value, part_values, total_bytes}
 
--- an upper bound of what so many parts add to the end
+-- an upper bound of what a given number of parts add to the end
 abbrev pub room_for : List Part → ℕ
 room_for parts = total_bytes parts + 4096 * length parts
 
@@ -64,7 +64,7 @@ piece_step file new part_bytes whole notes parts i p place end size h e e1 e2 e3
     rw e7 (laid_part file (part_value p) (part_values (drop (i + 1) parts)) notes
     ∙ (rw next at inv))
 
--- behind the last part, with no notes
+-- after the last part, with no notes
 pub pieces_end : (bytes whole notes : List ℕ) (parts : List Part) (i : ℕ) → length parts ≤ i
     → true ≡ (length notes == 0) →
     file_with_pieces bytes (pieces (length bytes) (part_values (drop i parts)) notes) ≡ whole

@@ -4,6 +4,7 @@ ghost use Rattle.std.specs.Prelude.{◌≡◌, ◌+◌, ◌^◌, ◌<◌, ◌≤
 ghost use Rattle.erim_defs.specs.Output.LayImage.{halves, words, xwords, multiple_from};
 ghost use Rattle.erim_defs.specs.Output.LayImage.{with_padding};
 
+use erim_defs::field::{u16_bytes, u32_bytes, u64_bytes};
 use std::alloc::AllocError;
 
 /// Appends fields of 2 bytes.
@@ -11,7 +12,7 @@ pub fn push_halves(bytes: &mut Vec<u8>, numbers: &[u16]) -> Result<(), AllocErro
     ensures { OnOk result (bytes.new.items ≡ bytes.old.items ++ halves numbers.now) }
 {
     for number in numbers {
-        bytes.extend_from_slice(&number.to_le_bytes())?;
+        bytes.extend_from_slice(&u16_bytes(*number))?;
     }
     Ok(())
 }
@@ -21,7 +22,7 @@ pub fn push_words(bytes: &mut Vec<u8>, numbers: &[u32]) -> Result<(), AllocError
     ensures { OnOk result (bytes.new.items ≡ bytes.old.items ++ words numbers.now) }
 {
     for number in numbers {
-        bytes.extend_from_slice(&number.to_le_bytes())?;
+        bytes.extend_from_slice(&u32_bytes(*number))?;
     }
     Ok(())
 }
@@ -31,7 +32,7 @@ pub fn push_xwords(bytes: &mut Vec<u8>, numbers: &[u64]) -> Result<(), AllocErro
     ensures { OnOk result (bytes.new.items ≡ bytes.old.items ++ xwords numbers.now) }
 {
     for number in numbers {
-        bytes.extend_from_slice(&number.to_le_bytes())?;
+        bytes.extend_from_slice(&u64_bytes(*number))?;
     }
     Ok(())
 }

@@ -15,9 +15,9 @@ use erim_defs::elf::{
 use erim_defs::page::PAGE_SIZE;
 use std::alloc::AllocError;
 
-/// What a program header tells. Its p_paddr is its p_vaddr.
+/// What a program header says. Its p_paddr is its p_vaddr.
 #[derive(Clone, Copy)]
-pub struct Header {
+pub struct NewHeader {
     pub kind: u32,
     pub flags: u32,
     /// The place of its bytes in the file.
@@ -59,7 +59,7 @@ pub fn push_file_header(bytes: &mut Vec<u8>, count: u16, entry: u64) -> Result<(
 }
 
 /// Appends a program header, of 56 bytes.
-pub fn push_program_header(bytes: &mut Vec<u8>, header: &Header) -> Result<(), AllocError>
+pub fn push_program_header(bytes: &mut Vec<u8>, header: &NewHeader) -> Result<(), AllocError>
     ensures { OnOk result (bytes.new.items ≡ bytes.old.items ++ header_bytes header.now) }
 {
     push_words(bytes, &[header.kind, header.flags])?;
@@ -76,7 +76,7 @@ pub fn push_program_header(bytes: &mut Vec<u8>, header: &Header) -> Result<(), A
     )
 }
 
-/// The place in the file of a part's `length` bytes, behind the end of all before.
+/// The place in the file of a part's `length` bytes, after the end of all before.
 pub fn part_place(end: u64, length: u64) -> u64
     requires { end < 2 ^ 63 }
     ensures { result ≡ (if length == 0 then 0 else multiple_from 4096 end) }
@@ -88,7 +88,7 @@ pub fn part_place(end: u64, length: u64) -> u64
     }
 }
 
-/// Appends the program headers of the parts, whose bytes stand behind `start`, and of the notes
+/// Appends the program headers of the parts, whose bytes stand after `start`, and of the notes
 /// where there are any.
 pub fn push_headers(
     bytes: &mut Vec<u8>,
@@ -107,7 +107,7 @@ pub fn push_headers(
     for part in parts {
         let filesz = part.bytes.len() as u64;
         let place = part_place(end, filesz);
-        let header = Header {
+        let header = NewHeader {
             kind: PT_LOAD,
             flags: part.flags,
             place,
@@ -123,7 +123,7 @@ pub fn push_headers(
         return Ok(());
     }
     let filesz = notes.len() as u64;
-    let header = Header {
+    let header = NewHeader {
         kind: PT_NOTE,
         flags: PF_R,
         place: multiple_from(NOTE_ALIGNMENT, end),

@@ -1,9 +1,9 @@
 //! The image of a seed.
 
 ghost use Rattle.std.specs.Prelude.{◌≡◌, ◌≤◌, IfOk};
-ghost use Rattle.erim_defs.specs.Output.MadeImage.{seed_image, seed_rounds, seed_threads};
+ghost use Rattle.erim_defs.specs.Output.GeneratedImage.{seed_image, seed_rounds, seed_threads};
 
-use crate::made::make_image;
+use crate::generated::make_image;
 use erim_defs::NoMemory;
 use std::alloc::Global;
 
@@ -26,7 +26,7 @@ pub fn seed_rounds(seed: u64) -> u32
 }
 
 /// The image of a seed, of which each number has one.
-#[tactic(auto, unfolding(erim_defs::specs::Output::MadeImage::seed_image))]
+#[tactic(auto, unfolding(erim_defs::specs::Output::GeneratedImage::seed_image))]
 pub fn seed_image(alloc: Global, seed: u64) -> Result<Vec<u8>, NoMemory>
     ensures { IfOk result (λ bytes. bytes.items ≡ seed_image seed) }
 {

@@ -15,7 +15,7 @@ use Rattle.erim_defs.specs.declared.insn.FetchOutcome.{FetchOutcome}
 use Rattle.erim_defs.specs.declared.insn.FetchOutcome.TheVariants.{Runs, Need, Wrong}
 use Rattle.erim_defs.specs.Machine.Pages.{published_code, code_with, is_published, asks_exec}
 use Rattle.erim_defs.specs.Machine.Pages.{published_rights}
-use Rattle.erim_defs.specs.Machine.Access.{opens, whole}
+use Rattle.erim_defs.specs.Machine.Access.{whole}
 use Rattle.erim_defs.specs.Inspection.Image.{IsAccepted, loaded_byte, segments, touches}
 use Rattle.erim_defs.specs.Inspection.Image.{trusted_code, image_trust, is_writable, is_executable}
 use Rattle.erim_defs.specs.Inspection.Unsafe.{first_unsafe}
@@ -27,14 +27,14 @@ use Rattle.erim_defs.specs.Machine.CallResult.{CallResult}
 use Rattle.erim_defs.specs.Machine.Calls.{call_result}
 use Rattle.erim_defs.specs.Machine.Step.{step, after_move, after_instruction, after_call}
 use Rattle.erim_defs.specs.Machine.Step.{after_fetch, with_new_thread, caller_after, with_change}
-use Rattle.erim_defs.specs.Machine.Step.{behind_syscall, after_verdict, after_exec_fault}
+use Rattle.erim_defs.specs.Machine.Step.{after_syscall, after_verdict, after_exec_fault}
 use Rattle.erim_defs.specs.Machine.Step.{ready_thread, after_step_of, fetch, Runner}
 use Rattle.erim_defs.specs.Machine.Start.{byte_in, first_rights, first_thread, unpublished_rights}
-use Rattle.erim_defs.specs.Machine.Start.{image_asked, image_byte, is_keyed, is_stack, first_state}
+use Rattle.erim_defs.specs.Machine.Start.{image_asked, image_byte, is_stack, first_state}
 use Rattle.erim_defs.specs.Machine.Start.{rights_at_start, asked_of, asked_in}
 use Rattle.erim_defs.specs.Machine.Replay.{then_, steps_of, replay_from, replay}
 use Rattle.erim_defs.specs.Machine.Isolation.{IsKept, IsRuled, IsStartable}
-use Rattle.erim_defs.proofs.LossLemmas.{unsafe_loses}
+use Rattle.isolation.proofs.LossLemmas.{unsafe_loses}
 use Rattle.erim_defs.proofs.AcceptedLemmas.{text_is, entries_else, entries_in, image_low}
 use Rattle.erim_defs.proofs.AcceptedLemmas.{page_key_few}
 use Rattle.erim_defs.proofs.AcceptedLemmas.{plain_at_home}
@@ -324,7 +324,7 @@ replied_follows : (N : ℕ → Type 0) → ((x : ℕ) → x < 256 → N x)
     → Follows N s (after_call r (record { number = t; thread = old }) new s)
 replied_follows N bytes (Refusal e) t old new s fine = same_follows N s _ refl refl
 replied_follows N bytes (Answer v c) t old new s fine =
-    made_follows N c.made s (after_move
+    made_follows N c.clone s (after_move
     (record {
       runner = record { number = t; thread = old };
       after = (caller_after v c new);
@@ -360,8 +360,8 @@ did_follows {N} d (Done new w) insn len skip t old s h =
 did_follows {N} d (Stopped x) insn len skip t old s h =
     stop_follows N x (record { number = t; thread = old }) s
 did_follows {N} d Called insn len skip t old s h =
-    replied_follows N d.bytes (call_result s t (behind_syscall len old)) t old
-    (behind_syscall len old) s (λ v c k. all_fine N s v t (behind_syscall len old) c h k)
+    replied_follows N d.bytes (call_result s t (after_syscall len old)) t old
+    (after_syscall len old) s (λ v c k. all_fine N s v t (after_syscall len old) c h k)
 
 moved_follows : {N : ℕ → Type 0} → Decoder N → (x : FetchOutcome) (t : ℕ) (old : Thread) (s : State)
     → IsKept s → Follows N s (after_fetch x (record { number = t; thread = old }) s)

@@ -1,9 +1,9 @@
--- What an answer of a call tells, and that a change that leaves the pages is fine.
+-- What an answer of a call says, and that a change that leaves the pages is fine.
 use Rattle.std.proofs.Common.{◌≡◌, ◌/◌, ℕ, Option, Some, None, Bool, true, false, cond}
 use Rattle.std.proofs.Common.{is_some, refl, sym, ap, subst, ◌∙◌, inl}
 use Rattle.erim_defs.specs.declared.machine.Thread.{Thread}
 use Rattle.erim_defs.specs.Machine.Pages.{RightsMap, ByteMap, published_code}
-use Rattle.erim_defs.specs.Machine.Domains.{opened}
+use Rattle.erim_defs.specs.Machine.Domains.{opened_domains}
 use Rattle.erim_defs.specs.Machine.State.{State, code, trust_of}
 use Rattle.erim_defs.specs.Machine.CallResult.{Change, Answer, or_refuse, CallResult}
 use Rattle.erim_defs.specs.Machine.Isolation.{HasTaken, IsKept, KeepsText}
@@ -27,7 +27,7 @@ pub row_answer : (P : Type 0) (b : Bool) (x y : CallResult) (v : ℕ) (c : Chang
 row_answer P true x y v c f g h = f h
 row_answer P false x y v c f g h = g h
 
--- the same, where the row tells more
+-- the same, where the row says more
 pub row_here : (P : Type 0) (b : Bool) (x y : CallResult) (v : ℕ) (c : Change)
     → (b ≡ true → x ≡ Answer v c → P) → (y ≡ Answer v c → P) → cond b x y ≡ Answer v c → P
 row_here P true x y v c f g h = f refl h
@@ -58,8 +58,8 @@ pub record LeavesPages (s : State) (t : Thread) (c : Change) : Type 0 where
   pub rights : c.rights ≡ s.rights
   pub bytes : c.bytes ≡ s.bytes
   pub keys : HasTaken (trust_of s) c.keys
-  pub pkru : opened (trust_of s) c.pkru ≡ opened (trust_of s) t.pkru
-  pub made : (u : Thread) → c.made ≡ Some u → IsCopy t u
+  pub pkru : opened_domains (trust_of s) c.pkru ≡ opened_domains (trust_of s) t.pkru
+  pub made : (u : Thread) → c.clone ≡ Some u → IsCopy t u
 
 pub left_fine : (N : ℕ → Type 0) (s : State) (t : Thread) (c : Change) → IsKept s
     → LeavesPages s t c → IsFine N s t c

@@ -19,9 +19,11 @@ use Rattle.erim_defs.specs.Machine.State.{State, code, with_origin, is_outside, 
 use Rattle.erim_defs.specs.Machine.CallResult.{Quit, CallResult}
 use Rattle.erim_defs.specs.Machine.Calls.{call_result}
 use Rattle.erim_defs.specs.Machine.Step.{after_instruction, after_call, after_fetch, sequence_of}
-use Rattle.erim_defs.specs.Machine.Step.{behind_syscall, fetch}
+use Rattle.erim_defs.specs.Machine.Step.{after_syscall, fetch}
 use Rattle.erim_defs.specs.Machine.Isolation.{IsInCheck, Stands, PositionFact}
-use Rattle.isolation.specs.Laws.{ChecksOn, Faults, GoesOn, Ends, ChecksLaw}
+use Rattle.erim_defs.specs.Machine.Lawful.{ChecksOn}
+use Rattle.erim_defs.specs.Machine.Lawful.{Faults, GoesOn, Ends}
+use Rattle.isolation.specs.Laws.{ChecksLaw}
 use Rattle.erim_defs.proofs.OccurrenceLemmas.{occurrence_few, occurrence_there}
 use Rattle.isolation.proofs.CheckLemmas.{check_fetched}
 use Rattle.isolation.proofs.StandLemmas.{place_after, place_plan, place_moves, is_leave, leave_insn}
@@ -112,14 +114,14 @@ ends s new t old insn len is number runs m =
     let later : State = record s { steps = s.steps + 1 } in
     let d : effect (plan insn len old) (whole s.rights) s.bytes old.pkru old.rip ≡ Called =
     does_call insn len old (whole s.rights) s.bytes old.pkru old.rip is in
-    let q : call_result later t (behind_syscall len old)
-    ≡ Quit (register (behind_syscall len old) 7 % 256) =
-    reply_quit later t (behind_syscall len old) (entered_zero len old ∙ number) in
-    let status : register (behind_syscall len old) 7 ≡ register old 7 =
+    let q : call_result later t (after_syscall len old)
+    ≡ Quit (register (after_syscall len old) 7 % 256) =
+    reply_quit later t (after_syscall len old) (entered_zero len old ∙ number) in
+    let status : register (after_syscall len old) 7 ≡ register old 7 =
     entered_reg len 7 old (omega arith) (omega arith) in
-    let over : Some (Exit (register (behind_syscall len old) 7 % 256)) ≡ new.end =
+    let over : Some (Exit (register (after_syscall len old) 7 % 256)) ≡ new.end =
     ap (λ (r : CallResult). (after_call r (record { number = t; thread = old })
-    (behind_syscall len old) later).end) (sym q) ∙ ap (λ (x : Effect). (after_instruction x
+    (after_syscall len old) later).end) (sym q) ∙ ap (λ (x : Effect). (after_instruction x
     (record { insn = insn; len = len; skip = 0 }) (record { number = t; thread = old })
     later).end) (sym d) ∙ ap (λ (x : State). x.end) m in
     Ends len (runs ∙ ap (λ (i : Insn). Runs i len 0) is) number (sym over

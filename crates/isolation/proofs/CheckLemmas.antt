@@ -70,7 +70,7 @@ reads_fetched {N} c rip text insn r all h l = elim (present_begins c rip 15 text
   | inr (f, g, e, m, b) ↦ inr (rip + length f, rw b (rw (r.part f g e m) refl))
 ]
 
--- the bytes of the instructions behind a position
+-- the bytes of the instructions after a position
 abbrev bytes_behind : TrustValue → SeqKind → ℕ → Position → List ℕ
 bytes_behind trust k next Compare =
     check_bytes trust k next Branch

@@ -11,8 +11,9 @@ use Rattle.erim_defs.specs.Encoding.Parts.{AreBytes}
 use Rattle.erim_defs.specs.Encoding.Grammar.{Encodes}
 use Rattle.erim_defs.specs.Encoding.Decodes.{Decodes, PrefixFree}
 use Rattle.erim_defs.specs.Encoding.Decoding.{decode}
+use Rattle.erim_defs.proofs.ByteLemmas.{bytes_append}
 use Rattle.isolation.specs.GrammarLaws.{GrammarLaws}
-use Rattle.erim_defs.proofs.SequenceEncodings.{Spells, insn_kind}
+use Rattle.encoding_laws.proofs.SequenceEncodings.{Spells, insn_kind}
 use Rattle.erim_defs.specs.Inspection.Trust.{TrustValue}
 use Rattle.erim_defs.specs.Inspection.Check.{Position, check_insn, check_bytes}
 
@@ -32,7 +33,7 @@ pub record Reads (N : ℕ → Type 0) (text : List ℕ) (insn : Insn) : Type 0 w
   pub part : (front back : List ℕ) → text ≡ front ++ back → 0 < length back
       → decode front ≡ answers.Short
 
--- the bytes of an instruction that writes PKRU end with its sequence, behind skip bytes
+-- the bytes of an instruction that writes PKRU end with its sequence, after skip bytes
 pub record HoldsSequence (kind : SeqKind) (bytes : List ℕ) (len skip : ℕ) : Type 0 where
   pub front : List ℕ
   pub text : List ℕ
@@ -58,10 +59,6 @@ IsByte x = x < 256
 are_bytes : (xs : List ℕ) → AllOf IsByte xs → AreBytes xs
 are_bytes [] h = tt
 are_bytes (x ∷ xs) h = (h.0, are_bytes xs h.1)
-
-bytes_append : (xs ys : List ℕ) → AreBytes xs → AreBytes ys → AreBytes (xs ++ ys)
-bytes_append [] ys h k = k
-bytes_append (x ∷ xs) ys h k = (h.0, bytes_append xs ys h.1 k)
 
 bytes_front : (xs ys : List ℕ) → AreBytes (xs ++ ys) → AreBytes xs
 bytes_front [] ys h = tt

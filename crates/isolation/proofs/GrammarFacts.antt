@@ -9,13 +9,14 @@ use Rattle.erim_defs.specs.Machine.State.{Setup}
 use Rattle.erim_defs.specs.Machine.Isolation.{IsStartable}
 use Rattle.isolation.specs.GrammarLaws.{GrammarLaws}
 use Rattle.isolation.proofs.DecoderFacts.{AllOf, Decoder, decoder_of_bytes, IsByte}
-use Rattle.erim_defs.proofs.DecodeLemmas.{decode_is_exact}
-use Rattle.erim_defs.proofs.EncodingLemmas.{prefix_free}
-use Rattle.erim_defs.proofs.CheckEncodings.{encodes_bt, encodes_compare, encodes_jae, encodes_je}
-use Rattle.erim_defs.proofs.CheckEncodings.{encodes_mov, encodes_syscall}
-use Rattle.erim_defs.proofs.SequenceEncodings.{sequence_encoding}
+use Rattle.encoding_laws.proofs.DecodeLemmas.{decode_is_exact}
+use Rattle.encoding_laws.proofs.EncodingLemmas.{prefix_free}
+use Rattle.encoding_laws.proofs.CheckEncodings.{encodes_bt, encodes_compare, encodes_jae}
+use Rattle.encoding_laws.proofs.CheckEncodings.{encodes_je}
+use Rattle.encoding_laws.proofs.CheckEncodings.{encodes_mov, encodes_syscall}
+use Rattle.encoding_laws.proofs.SequenceEncodings.{sequence_encoding}
 use Rattle.erim_defs.specs.Inspection.Trust.{TrustValue, entry_key}
-use Rattle.erim_defs.specs.Inspection.Check.{compared}
+use Rattle.erim_defs.specs.Inspection.Check.{compared_value}
 use Rattle.erim_defs.proofs.DomainLemmas.{pkru_few}
 use Rattle.std.proofs.Common.{arith, cond}
 use Rattle.erim_defs.specs.Inspection.Check.{Position, Compare, Branch, Number, Leave, check_insn}
@@ -27,7 +28,7 @@ check_spelled : (trust : TrustValue) (kind : SeqKind) (next : ℕ) (position : P
     → Encodes (check_bytes trust kind next position) (check_insn trust kind next position) 0
 check_spelled trust Wrpkru next Compare =
     let few = pkru_few trust (cond trust.strict (entry_key trust next) 0) in
-    encodes_compare (compared trust next) (omega (arith, few))
+    encodes_compare (compared_value trust next) (omega (arith, few))
 check_spelled trust Wrpkru next Branch = encodes_je
 check_spelled trust Wrpkru next Number = encodes_mov
 check_spelled trust Wrpkru next Leave = encodes_syscall

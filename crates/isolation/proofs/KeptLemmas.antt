@@ -1,6 +1,6 @@
 -- Each constructor of a step keeps the invariant.
 use Rattle.std.proofs.Common.{◌≡◌, ◌≢◌, ◌<◌, ◌≤◌, ◌+◌, ◌-◌, ◌*◌, ◌/◌, ◌%◌, ◌^◌, ℕ, List, length}
-use Rattle.std.proofs.Common.{Option, Some, None, Bool, true, false, cond, eqb, ltb, not, ◌&&◌}
+use Rattle.std.proofs.Common.{Option, Some, None, Bool, true, false, cond, eqb, ltb, ◌&&◌}
 use Rattle.std.proofs.Common.{is_none, is_some, refl, sym, ap, subst, ◌∙◌, arith, inl, inr}
 use Rattle.std.proofs.Common.{eqb-true, ne_eqb, length-set, ltb-true, get_or-set_other}
 use Rattle.std.specs.Prelude.{slice_set, slice_get}
@@ -19,16 +19,14 @@ use Rattle.erim_defs.specs.declared.insn.FetchOutcome.{FetchOutcome}
 use Rattle.erim_defs.specs.declared.insn.FetchOutcome.TheVariants.{Runs, Need, Wrong}
 use Rattle.erim_defs.specs.Machine.Pages.{RightsMap, ByteMap, published_code, code_with}
 use Rattle.erim_defs.specs.Machine.Pages.{is_published, with_value_at, asks_exec, published_rights}
-use Rattle.erim_defs.specs.Machine.Pages.{asks_write, taken_back}
+use Rattle.erim_defs.specs.Machine.Pages.{asks_write, taken_back_rights}
 use Rattle.erim_defs.specs.declared.machine.Access.{Access}
 use Rattle.erim_defs.specs.declared.machine.Cause.TheVariants.{Write as WriteCause}
 use Rattle.erim_defs.specs.Machine.MapCalls.{is_pinned}
-use Rattle.erim_defs.specs.Machine.Step.{after_fault, after_stop, after_take_back}
-use Rattle.erim_defs.specs.Machine.Step.{after_write_fault}
-use Rattle.erim_defs.specs.Machine.Step.{is_write_fault}
+use Rattle.erim_defs.specs.Machine.Step.{after_fault, after_stop}
 use Rattle.isolation.proofs.ThreadLemmas.{origins_unpinned}
-use Rattle.erim_defs.specs.Machine.Access.{whole, opens_write}
-use Rattle.erim_defs.specs.Machine.Domains.{is_set_but, opened}
+use Rattle.erim_defs.specs.Machine.Access.{whole}
+use Rattle.erim_defs.specs.Machine.Domains.{is_set_but, opened_domains}
 use Rattle.erim_defs.specs.Inspection.Image.{image_trust}
 use Rattle.erim_defs.specs.Inspection.Unsafe.{first_unsafe}
 use Rattle.erim_defs.specs.Machine.Plan.{Write, Effect, Done, Stopped, Called, effect}
@@ -40,16 +38,17 @@ use Rattle.erim_defs.specs.Machine.State.{first_escape, trust_of, any_live}
 use Rattle.erim_defs.specs.Machine.CallResult.{Change, Refusal, Answer, ThreadEnd, Quit}
 use Rattle.erim_defs.specs.Machine.CallResult.{CallResult}
 use Rattle.erim_defs.specs.Machine.Calls.{call_result}
-use Rattle.erim_defs.specs.Machine.Step.{is_free, flags_word, step, after_move, after_instruction}
+use Rattle.erim_defs.specs.Machine.Step.{writes_pkru, flags_word, step, after_move}
+use Rattle.erim_defs.specs.Machine.Step.{after_instruction}
 use Rattle.erim_defs.specs.Machine.Step.{after_call, after_fetch, sequence_of, with_new_thread}
-use Rattle.erim_defs.specs.Machine.Step.{caller_after, with_change, behind_syscall, with_end}
+use Rattle.erim_defs.specs.Machine.Step.{caller_after, with_change, after_syscall, with_end}
 use Rattle.erim_defs.specs.Machine.Step.{with_last_end}
 use Rattle.erim_defs.specs.Machine.Step.{after_verdict, after_exec_fault, ready_thread}
 use Rattle.erim_defs.specs.Machine.Step.{after_step_of, if_live, fetch, Runner}
 use Rattle.erim_defs.specs.Machine.Start.{unpublished_rights}
 use Rattle.erim_defs.specs.Machine.Isolation.{HasTaken, IsKept, IsRuled, KeepsText, Stands}
-use Rattle.erim_defs.proofs.WriteLemmas.{IsAllowed, does_allowed, sealed_same}
-use Rattle.erim_defs.proofs.LossLemmas.{Loses, unsafe_loses}
+use Rattle.isolation.proofs.WriteLemmas.{IsAllowed, does_allowed, sealed_same}
+use Rattle.isolation.proofs.LossLemmas.{Loses, unsafe_loses}
 use Rattle.erim_defs.proofs.WriteFaultLemmas.{stop_either, write_either}
 use Rattle.isolation.proofs.DecoderFacts.{Decoder}
 use Rattle.isolation.proofs.ListLemmas.{OfCode}
@@ -263,7 +262,7 @@ kept_done {N} d s insn len skip t old new w ent of h run done =
     let goes = done_goes insn len old new w (whole s.rights) s.bytes old.pkru old.rip done in
     let same = λ (x : ℕ). code_after s old.pkru w x h allowed in
     kept_went next t old new (sequence_of (record { insn = insn; len = len; skip = skip }) old.rip)
-    (is_free insn old) k (goes.regs ∙ regs)
+    (writes_pkru insn old) k (goes.regs ∙ regs)
     (λ l e g esc. stands_on s w
     (with_origin (trust_of s) (sequence_of (record { insn = insn; len = len; skip = skip })
     old.rip) new) same
@@ -385,7 +384,7 @@ kept_fault (Some r) x t s h e = elim (cases_Bool (asks_exec r.asked && ltb (x / 
 
 -- ---- write faults
 
-back_ruled : (r : Rights) → IsRuled r → asks_write r.asked ≡ true → IsRuled (taken_back r)
+back_ruled : (r : Rights) → IsRuled r → asks_write r.asked ≡ true → IsRuled (taken_back_rights r)
 back_ruled r h a = record {
   sealed = λ f. absurd cc;
   exec = λ f. absurd cc;
@@ -397,12 +396,12 @@ back_ruled r h a = record {
 -- a page that isn't pinned takes its publication back
 pub kept_back : (s : State) (q : ℕ) (r : Rights) → IsKept s → s.rights q ≡ Some r
     → asks_write r.asked ≡ true → is_pinned s.threads q ≡ false
-    → IsKept (record s { rights = with_value_at s.rights q (Some (taken_back r)) })
+    → IsKept (record s { rights = with_value_at s.rights q (Some (taken_back_rights r)) })
 kept_back s q r h m a free =
-    let rights : RightsMap = with_value_at s.rights q (Some (taken_back r)) in
+    let rights : RightsMap = with_value_at s.rights q (Some (taken_back_rights r)) in
     kept_frame s rights s.bytes s.keys s.blocks s.output h
     (λ p x k. elim (cases_Bool (eqb p q)) [
-      | inl y ↦ subst IsRuled (some_same (taken_back r) x (rw y at k))
+      | inl y ↦ subst IsRuled (some_same (taken_back_rights r) x (rw y at k))
           (back_ruled r (h.ruled q r m) a)
       | inr n ↦ h.ruled p x (rw n at k)
     ])
@@ -439,7 +438,7 @@ kept_back s q r h m a free =
           let v : None ≡ Some r = sym (h.low p y) ∙ ap s.rights w ∙ m in cc)
     ])
     (λ x n. elim (cases_Bool (eqb (x / 4096) q)) [
-      | inl y ↦ absurd (let z : Some (taken_back r) ≡ None = rw y at n in cc)
+      | inl y ↦ absurd (let z : Some (taken_back_rights r) ≡ None = rw y at n in cc)
       | inr y ↦ h.zeros x (rw y at n)
     ])
 
@@ -478,8 +477,8 @@ pub record IsFine (N : ℕ → Type 0) (s : State) (t : Thread) (c : Change) : T
   pub origins : KeepsOrigins (published_code c.rights c.bytes) (code s) s.threads
   pub low : (q : ℕ) → 2 ^ 35 ≤ q → c.rights q ≡ None
   pub zeros : (a : ℕ) → c.rights (a / 4096) ≡ None → c.bytes a ≡ 0
-  pub pkru : opened (trust_of s) c.pkru ≡ opened (trust_of s) t.pkru
-  pub made : (u : Thread) → c.made ≡ Some u → IsCopy t u
+  pub pkru : opened_domains (trust_of s) c.pkru ≡ opened_domains (trust_of s) t.pkru
+  pub made : (u : Thread) → c.clone ≡ Some u → IsCopy t u
   pub kind : ((x : ℕ) → x < 256 → N x) → OfState N s → (a : ℕ) → N (c.bytes a)
 
 -- a copy stands outside trusted text where the thread itself does
@@ -541,14 +540,14 @@ kept_quit s t old new status h regs = record {
   zeros = h.zeros;
 }
 
-pub entered_zero : (len : ℕ) (t : Thread) → register (behind_syscall len t) 0 ≡ register t 0
+pub entered_zero : (len : ℕ) (t : Thread) → register (after_syscall len t) 0 ≡ register t 0
 entered_zero len t =
     let a : 0 ≢ 11 = omega arith in
     let b : 0 ≢ 1 = omega arith in
     get_or-set_other (slice_set t.regs 1 (onward len t).rip) 11 0 (flags_word t.flags) 0 a
     ∙ get_or-set_other t.regs 1 0 (onward len t).rip 0 b
 
-pub entered_regs : (len : ℕ) (t : Thread) → length (behind_syscall len t).regs ≡ length t.regs
+pub entered_regs : (len : ℕ) (t : Thread) → length (after_syscall len t).regs ≡ length t.regs
 entered_regs len t = length-set (slice_set t.regs 1 (onward len t).rip) 11 (flags_word t.flags)
     ∙ length-set t.regs 1 (onward len t).rip
 
@@ -566,8 +565,9 @@ made_kept s (Some u) h regs st = kept_made s u h (regs u refl) (st u refl)
 
 kept_answer : {N : ℕ → Type 0} (s : State) (t v : ℕ) (c : Change) (old new : Thread) → IsKept s
     → IsFine N s new c → length new.regs ≡ 16
-    → opened (trust_of s) new.pkru ≡ opened (trust_of s) old.pkru
-    → ((u : Thread) → opened (trust_of s) u.pkru ≡ opened (trust_of s) old.pkru → CallerIn s old u)
+    → opened_domains (trust_of s) new.pkru ≡ opened_domains (trust_of s) old.pkru
+    → ((u : Thread) → opened_domains (trust_of s) u.pkru ≡ opened_domains (trust_of s) old.pkru
+    → CallerIn s old u)
     → IsKept (after_call (Answer v c) (record { number = t; thread = old }) new s)
 kept_answer s t v c old new h f regs p call =
     let k = kept_changed s new c h f in
@@ -584,14 +584,14 @@ kept_answer s t v c old new h f regs p call =
       executed = None;
       free =
           false;
-    }) (with_change c s)) c.made on
+    }) (with_change c s)) c.clone on
     (λ u e. (f.made u e).regs ∙ regs)
     (λ u e n g. (let k = escape_none s.escape
     (is_escape (trust_of s) false old (caller_after v c new)) s.steps t
     (caller_after v c new).rip g in
     copy_outside (trust_of s) new u (f.made u e) ∙ sym same ∙ inside n k.0 k.1))
 
--- behind the end of a thread
+-- after the end of a thread
 abbrev pub ended_thread : ℕ → Thread → Thread → State → State
 ended_thread t old new s = after_move (record {
   runner = record { number = t; thread = old };
@@ -601,10 +601,11 @@ ended_thread t old new s = after_move (record {
 }) s
 
 kept_replied : {N : ℕ → Type 0} (s : State) (t : ℕ) (r : CallResult) (old new : Thread) → IsKept s
-    → length new.regs ≡ 16 → opened (trust_of s) new.pkru ≡ opened (trust_of s) old.pkru
+    → length new.regs ≡ 16
+    → opened_domains (trust_of s) new.pkru ≡ opened_domains (trust_of s) old.pkru
     → ((v : ℕ) (c : Change) → r ≡ Answer v c → IsFine N s new c)
     → (((x : ℕ) → r ≢ Quit x) → (u : Thread)
-    → opened (trust_of s) u.pkru ≡ opened (trust_of s) old.pkru → CallerIn s old u)
+    → opened_domains (trust_of s) u.pkru ≡ opened_domains (trust_of s) old.pkru → CallerIn s old u)
     → IsKept (after_call r (record { number = t; thread = old }) new s)
 kept_replied s t (Refusal e) old new h regs p fine call =
     kept_went s t old (with_register new 0 (2 ^ 64 - e)) None false h
@@ -629,20 +630,20 @@ pub kept_called : {N : ℕ → Type 0} → Decoder N
     → (s : State) (insn : Insn) (len skip t : ℕ) (old : Thread) → OfState N s → IsKept s
     → IsRunning s t old insn len skip
     → effect (plan insn len old) (whole s.rights) s.bytes old.pkru old.rip ≡ Called
-    → ((v : ℕ) (c : Change) → call_result s t (behind_syscall len old) ≡ Answer v c
-    → IsFine N s (behind_syscall len old) c)
+    → ((v : ℕ) (c : Change) → call_result s t (after_syscall len old) ≡ Answer v c
+    → IsFine N s (after_syscall len old) c)
     → IsKept (after_instruction Called (record { insn = insn; len = len; skip = skip })
     (record { number = t; thread = old }) s)
 kept_called {N} d s insn len skip t old of h run called fine =
     let regs = running_regs s t old h run.at in
-    kept_replied s t (call_result s t (behind_syscall len old)) old (behind_syscall len old) h
+    kept_replied s t (call_result s t (after_syscall len old)) old (after_syscall len old) h
     (entered_regs len old ∙ regs) refl fine
     (λ n u p e g esc.
     called_stands d (trust_of s) (code s) old u insn len skip (whole s.rights) s.bytes old.pkru
     old.rip (code_kind N s of) h.safe (running_stands s t old h run.at run.live e g) run.runs
     called
-    (λ q. n (register (behind_syscall len old) 7 % 256)
-    (reply_quit s t (behind_syscall len old) (entered_zero len old ∙ q))) p esc)
+    (λ q. n (register (after_syscall len old) 7 % 256)
+    (reply_quit s t (after_syscall len old) (entered_zero len old ∙ q))) p esc)
 
 -- ---- a step
 
@@ -656,7 +657,7 @@ kept_did d a s (Done new w) insn len skip t old ent of h run e =
     kept_done d s insn len skip t old new w ent of h run e
 kept_did d a s (Stopped x) insn len skip t old ent of h run e = kept_stop x t old s h
 kept_did d a s Called insn len skip t old ent of h run e =
-    kept_called d s insn len skip t old of h run e (λ v c k. a s v t (behind_syscall len old) c h k)
+    kept_called d s insn len skip t old of h run e (λ v c k. a s v t (after_syscall len old) c h k)
 
 kept_moved : {N : ℕ → Type 0} → Decoder N → AllFine N
     → (s : State) (x : FetchOutcome) (t : ℕ) (old : Thread) → EntriesIn (trust_of s) → OfState N s

@@ -9,10 +9,11 @@ use Rattle.erim_defs.specs.Machine.Isolation.{IsStartable}
 use Rattle.erim_defs.specs.Machine.Replay.{replay}
 use Rattle.erim_defs.specs.Machine.State.{Setup, State}
 use Rattle.erim_defs.specs.Machine.Step.{step, ready_thread, after_step_of}
-use Rattle.isolation.specs.Laws.{CanStep, IsLawful, LawfulLaw}
+use Rattle.erim_defs.specs.Machine.Lawful.{IsLawful}
+use Rattle.isolation.specs.Laws.{CanStep, LawfulLaw}
 use Rattle.isolation.proofs.CheckLaw.{checks_law}
 use Rattle.isolation.proofs.KeptLemmas.{runner_is}
-use Rattle.isolation.proofs.MadeLemmas.{made_law}
+use Rattle.isolation.proofs.CloneLemmas.{made_law}
 use Rattle.isolation.proofs.OpenLemmas.{open_law}
 use Rattle.isolation.proofs.PublishLemmas.{publish_law, refuse_law}
 use Rattle.isolation.proofs.TouchLemmas.{touch_law}

@@ -18,7 +18,9 @@ pub mod RunLemmas
 pub mod CheckLaw
 pub mod TouchLemmas
 pub mod OpenLemmas
-pub mod MadeLemmas
+pub mod CloneLemmas
 pub mod PublishLemmas
 pub mod LawfulLemmas
 pub mod StartLemmas
+pub mod LossLemmas
+pub mod WriteLemmas

@@ -10,7 +10,7 @@ use Rattle.erim_defs.specs.Inspection.Code.{Code}
 use Rattle.erim_defs.specs.Machine.Pages.{code_bytes, code_bytes_on}
 use Rattle.erim_defs.specs.Inspection.Occurrence.{occurrence_at}
 use Rattle.erim_defs.specs.Encoding.Decoding.{decode}
-use Rattle.erim_defs.proofs.SequenceEncodings.{LiesAt, insn_kind}
+use Rattle.encoding_laws.proofs.SequenceEncodings.{LiesAt, insn_kind}
 use Rattle.isolation.proofs.DecoderFacts.{AllOf, Decoder}
 
 -- each byte of a code is of the kind

@@ -1,19 +1,17 @@
--- The calls on pages and keys: what an answer of each tells, and that each is fine.
+-- The calls on pages and keys: what an answer of each says, and that each is fine.
 use Rattle.std.proofs.Common.{◌≡◌, ◌≢◌, ◌<◌, ◌≤◌, ◌+◌, ◌-◌, ◌*◌, ◌/◌, ◌%◌, ◌^◌, ◌⊎◌, ℕ}
 use Rattle.std.proofs.Common.{Option, Some, None, Bool, true, false, cond, eqb, ltb, not, ◌&&◌}
 use Rattle.std.proofs.Common.{◌||◌, is_some, refl, sym, ap, subst, ◌∙◌, arith, inl, inr, ne_eqb}
 use Rattle.std.proofs.Common.{lit<, ltb-true, ltb-false, leb-true}
 use Rattle.std.proofs.lemmas.Bool.{cases_Bool, and_parts, and_right, or_parts, or_right}
 use Rattle.std.proofs.lemmas.Bool.{not-true, not-false}
-use Rattle.std.proofs.lemmas.Nat.{pow-add}
 use Rattle.std.proofs.Math.Bool.{and-true}
-use Rattle.std.proofs.Math.Nat.{mod-add-div, mul_assoc}
 use Rattle.std.specs.Prelude.{option_map}
 use Rattle.erim_defs.specs.declared.machine.Rights.{Rights}
 use Rattle.erim_defs.specs.declared.machine.Thread.{Thread}
 use Rattle.erim_defs.specs.Inspection.Trust.{in_text_of, is_domain, TrustValue}
 use Rattle.erim_defs.specs.Machine.Domains.{is_denied, opens_domain}
-use Rattle.erim_defs.specs.Machine.MapCalls.{has_denied}
+use Rattle.erim_defs.specs.Machine.MapCalls.{is_denied_page}
 use Rattle.erim_defs.proofs.DomainLemmas.{rights_opened}
 use Rattle.std.proofs.Common.{eqb-true, eq-eqb}
 use Rattle.erim_defs.specs.Machine.Pages.{asks_exec, is_published}
@@ -27,7 +25,7 @@ use Rattle.erim_defs.specs.Machine.MapCalls.{has_key, is_protected, is_pinned}
 use Rattle.erim_defs.specs.Machine.MapCalls.{with_pages, lowest_free, new_rights, mmap_from}
 use Rattle.erim_defs.specs.Machine.MapCalls.{mmap_anywhere, mmap_at, mmap_result, munmap_result}
 use Rattle.erim_defs.specs.Machine.MapCalls.{asked_anew, key_or, with_prot, is_foreign, is_taken}
-use Rattle.erim_defs.specs.Machine.MapCalls.{is_trusted_key, protect, mprotect_result}
+use Rattle.erim_defs.specs.Machine.MapCalls.{is_denied_key, protect, mprotect_result}
 use Rattle.erim_defs.specs.Machine.MapCalls.{pkey_mprotect_result, with_key_rights}
 use Rattle.erim_defs.specs.Machine.MapCalls.{least_free_key, alloc_key, pkey_alloc_result}
 use Rattle.erim_defs.specs.Machine.MapCalls.{pkey_free_result, has_pin}
@@ -76,17 +74,20 @@ not_denied trust pkru key domain h e is =
     by true c e h = h
     by false c e h = absurd cc
 
-keyed_by : (s : State) (t : Thread) (o : Option Rights) (domain : ℕ) → has_denied s t o ≡ false
+keyed_by : (s : State) (t : Thread) (o : Option Rights) (domain : ℕ)
+    → is_denied_page (trust_of s) t.pkru o ≡ false
     → is_domain (trust_of s) domain ≡ true → has_key o domain ≡ true
     → opens_domain (trust_of s) t.pkru domain ≡ true
 keyed_by s t None domain h is e = absurd cc
 keyed_by s t (Some r) domain h is e = not_denied (trust_of s) t.pkru r.key domain h e is
 
-apart_by : (s : State) (t : Thread) (r : PageRange) → is_protected s t r ≡ false → IsApart s t r
+apart_by : (s : State) (t : Thread) (r : PageRange)
+    → is_protected (trust_of s) s.rights t.pkru r ≡ false → IsApart s t r
 apart_by s t r p = record {
   text = λ q i. no_page r (λ q. in_text_of (trust_of s) (4096 * q)) q (or_parts _ _ p).0 i;
   keyed = λ q domain i is k. keyed_by s t (s.rights q) domain
-      (no_page r (λ q. has_denied s t (s.rights q)) q (or_parts _ _ p).1 i) is k;
+      (no_page r (λ q. is_denied_page (trust_of s) t.pkru (s.rights q)) q
+      (or_parts _ _ p).1 i) is k;
 }
 
 -- trusted text is outside such a range
@@ -294,7 +295,7 @@ pub record Protects (s : State) (t : Thread) (c : Change) : Type 0 where
   pub apart : IsApart s t range
   pub pins : asks_exec prot ≡ false → (q : ℕ) → is_in range q ≡ true
       → is_pinned s.threads q ≡ false
-  pub plain : is_trusted_key s t key ≡ false
+  pub plain : is_denied_key (trust_of s) t.pkru key ≡ false
 
 anew_exec : (prot key : ℕ) (r : Rights)
     → (asked_anew prot key r).exec ≡ (r.exec && asks_exec prot)

@@ -12,7 +12,7 @@ use Rattle.erim_defs.specs.Machine.Plan.{Write, bytes_after_write}
 use Rattle.erim_defs.specs.Machine.Isolation.{IsSafeCode}
 use Rattle.erim_defs.proofs.OccurrenceLemmas.{occurrence_absent}
 use Rattle.erim_defs.proofs.UnsafeLemmas.{unsafe_absent, first_below_none}
-use Rattle.erim_defs.proofs.WriteLemmas.{IsSealed}
+use Rattle.isolation.proofs.WriteLemmas.{IsSealed}
 use Rattle.isolation.proofs.StandLemmas.{IsLow}
 use Rattle.erim_defs.specs.Inspection.Trust.{TrustValue}
 

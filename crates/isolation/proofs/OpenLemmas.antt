@@ -8,7 +8,6 @@ use Rattle.erim_defs.specs.declared.found.SeqKind.{SeqKind}
 use Rattle.erim_defs.specs.declared.found.Found.{Found}
 use Rattle.erim_defs.specs.declared.machine.Rights.{Rights}
 use Rattle.erim_defs.specs.declared.machine.Thread.{Thread}
-use Rattle.erim_defs.specs.declared.machine.Access.TheVariants.{Fault, Missing}
 use Rattle.erim_defs.specs.declared.insn.Insn.{Insn}
 use Rattle.erim_defs.specs.declared.insn.FetchOutcome.{FetchOutcome}
 use Rattle.erim_defs.specs.declared.insn.FetchOutcome.TheVariants.{Runs, Need, Wrong}
@@ -26,12 +25,13 @@ use Rattle.erim_defs.specs.Machine.State.{State, code, with_origin, trust_of}
 use Rattle.erim_defs.specs.Machine.CallResult.{Change, Refusal, Answer, ThreadEnd, Quit}
 use Rattle.erim_defs.specs.Machine.CallResult.{CallResult}
 use Rattle.erim_defs.specs.Machine.Calls.{call_result}
-use Rattle.erim_defs.specs.Machine.Step.{is_free, after_move, after_instruction, after_call}
+use Rattle.erim_defs.specs.Machine.Step.{writes_pkru, after_move, after_instruction, after_call}
 use Rattle.erim_defs.specs.Machine.Step.{after_fetch, sequence_of, with_new_thread, caller_after}
-use Rattle.erim_defs.specs.Machine.Step.{with_change, behind_syscall, after_verdict}
+use Rattle.erim_defs.specs.Machine.Step.{with_change, after_syscall, after_verdict}
 use Rattle.erim_defs.specs.Machine.Step.{after_exec_fault, fetch, Runner}
 use Rattle.erim_defs.specs.Machine.Isolation.{IsSafeCode}
-use Rattle.isolation.specs.Laws.{Opened, OpenLaw}
+use Rattle.erim_defs.specs.Machine.Lawful.{IsOpening}
+use Rattle.isolation.specs.Laws.{OpenLaw}
 use Rattle.isolation.proofs.SequenceLemmas.{check_fits}
 use Rattle.isolation.proofs.ListLemmas.{sequence_fact}
 use Rattle.erim_defs.proofs.PlanLemmas.{Goes, done_goes}
@@ -44,7 +44,7 @@ use Rattle.isolation.proofs.GrammarFacts.{Known, decoder}
 use Rattle.isolation.proofs.RunLemmas.{run_good, step_moves}
 use Rattle.erim_defs.specs.Inspection.Check.{check_of}
 use Rattle.erim_defs.specs.Inspection.Trust.{TrustValue, flag_at, is_domain}
-use Rattle.erim_defs.specs.Machine.Domains.{opened}
+use Rattle.erim_defs.specs.Machine.Domains.{opened_domains}
 use Rattle.erim_defs.proofs.DomainLemmas.{domain_flag}
 use Rattle.erim_defs.proofs.WriteFaultLemmas.{stop_threads}
 use Rattle.std.proofs.lemmas.Bool.{and_parts}
@@ -75,7 +75,7 @@ append_get [] ys i a h = absurd cc
 append_get (x ∷ xs) ys zero a h = h
 append_get (x ∷ xs) ys (suc i) a h = append_get xs ys i a h
 
--- new threads stand behind the old ones
+-- new threads stand after the old ones
 made_get : (o : Option Thread) (s : State) (j : ℕ) (u : Thread) → slice_get s.threads j ≡ Some u
     → slice_get (with_new_thread o s).threads j ≡ Some u
 made_get None s j u h = h
@@ -85,7 +85,7 @@ made_get (Some v) s j u h = append_get s.threads (with_origin (trust_of s) None 
 
 -- the flag of a domain
 abbrev flag_of : TrustValue → ℕ → Thread → Bool
-flag_of trust d t = flag_at (opened trust t.pkru) d
+flag_of trust d t = flag_at (opened_domains trust t.pkru) d
 
 -- the same thread can't be closed and open
 same_not : (trust : TrustValue) (d : ℕ) (o : Option Thread) (a b : Thread) → o ≡ Some a
@@ -99,7 +99,7 @@ same_not trust d o a b e f c p =
 -- where the key 1 of the thread that moves is as before, nobody opens
 went_not : (trust : TrustValue) (d : ℕ) (ts : List Thread) (t i : ℕ) (old v a b : Thread)
     → slice_get ts t ≡ Some old
-    → opened trust v.pkru ≡ opened trust old.pkru → slice_get ts i ≡ Some a
+    → opened_domains trust v.pkru ≡ opened_domains trust old.pkru → slice_get ts i ≡ Some a
     → slice_get (slice_set ts t v) i ≡ Some b
     → flag_of trust d a ≡ false → flag_of trust d b ≡ true → ⊥
 went_not trust d ts t i old v a b at p e f c o = elim (set_get ts t i v b f) [
@@ -115,9 +115,9 @@ went_not trust d ts t i old v a b at p e f c o = elim (set_get ts t i v b f) [
 -- no call opens a thread
 replied_not : (d : ℕ) (r : CallResult) (t i : ℕ) (old new a b : Thread) (s : State)
     → slice_get s.threads t ≡ Some old
-    → opened (trust_of s) new.pkru ≡ opened (trust_of s) old.pkru
+    → opened_domains (trust_of s) new.pkru ≡ opened_domains (trust_of s) old.pkru
     → ((v : ℕ) (c : Change) → r ≡ Answer v c
-    → opened (trust_of s) c.pkru ≡ opened (trust_of s) new.pkru)
+    → opened_domains (trust_of s) c.pkru ≡ opened_domains (trust_of s) new.pkru)
     → slice_get s.threads i ≡ Some a
     → slice_get (after_call r (record { number = t; thread = old }) new s).threads i ≡ Some b
     → flag_of (trust_of s) d a ≡ false → flag_of (trust_of s) d b ≡ true → ⊥
@@ -134,8 +134,8 @@ replied_not d (Answer v ch) t i old new a b s at p q f g c o =
       free = false;
     }) (with_change ch s) in
     let u = set_some s.threads t i n a f in
-    let z : slice_get (with_new_thread ch.made moved).threads i ≡ Some u.0 =
-    made_get ch.made moved i u.0 u.1 in
+    let z : slice_get (with_new_thread ch.clone moved).threads i ≡ Some u.0 =
+    made_get ch.clone moved i u.0 u.1 in
     let k : Some u.0 ≡ Some b = sym z ∙ g in
     let y : u.0 ≡ b = cc in
     went_not (trust_of s) d s.threads t i old n a b at (q v ch refl ∙ p) f (u.1 ∙ ap Some y) c o
@@ -176,7 +176,7 @@ behind_gate trust c o rip safe e r = elim (cases_Bool (opens_gate trust o.kind (
 opened_free : (s : State) (t i : ℕ) (a b new : Thread) (insn : Insn) (len skip : ℕ)
     → IsGood Known s → i ≡ t → fetch (code s) a.rip ≡ Runs insn len skip → Goes insn len a new
     → b ≡ with_origin (trust_of s) (sequence_of (record { insn = insn; len = len; skip = skip })
-    a.rip) new → is_free insn a ≡ true → Opened s t i a b
+    a.rip) new → writes_pkru insn a ≡ true → IsOpening s t i a b
 opened_free s t i a b new insn len skip h own f g is free =
     let kind = free_kind insn a free in
     let k : SeqKind = kind.0 in
@@ -193,10 +193,10 @@ opened_free s t i a b new insn len skip h own f g is free =
       skip = skip;
       origin = o;
       runs = f;
-      made = made_of insn k len skip a.rip kind.1;
+      sequence = made_of insn k len skip a.rip kind.1;
       occurs = q.occurs;
       rip = to;
-      behind = behind_gate (image_trust s.setup.image) (code s) o b.rip h.kept.safe q.occurs to;
+      follows = behind_gate (image_trust s.setup.image) (code s) o b.rip h.kept.safe q.occurs to;
     }
 
 opened_done : (d : ℕ) (s : State) (t i : ℕ) (old a b new : Thread) (insn : Insn) (len skip : ℕ)
@@ -206,12 +206,12 @@ opened_done : (d : ℕ) (s : State) (t i : ℕ) (old a b new : Thread) (insn : I
     → slice_get (slice_set s.threads t
     (with_origin (trust_of s) (sequence_of (record { insn = insn; len = len; skip = skip })
     old.rip) new)) i ≡ Some b → flag_of (trust_of s) d a ≡ false → flag_of (trust_of s) d b
-    ≡ true → Opened s t i a b
+    ≡ true → IsOpening s t i a b
 opened_done d s t i old a b new insn len skip h at f g e k c o =
-    elim (cases_Bool (is_free insn old)) [
+    elim (cases_Bool (writes_pkru insn old)) [
       | inr n ↦ absurd (went_not (trust_of s) d s.threads t i old
           (with_origin (trust_of s) (sequence_of (record { insn = insn; len = len; skip = skip })
-          old.rip) new) a b at (ap (opened (trust_of s)) (g.pkru n)) e k c o)
+          old.rip) new) a b at (ap (opened_domains (trust_of s)) (g.pkru n)) e k c o)
       | inl free ↦ elim (set_get s.threads t i
           (with_origin (trust_of s) (sequence_of (record { insn = insn; len = len; skip = skip })
           old.rip) new) b k) [
@@ -222,7 +222,7 @@ opened_done d s t i old a b new insn len skip h at f g e k c o =
   where
     moved_own : i ≡ t → b ≡ with_origin (trust_of s)
         (sequence_of (record { insn = insn; len = len; skip = skip }) old.rip) new
-        → is_free insn old ≡ true → Opened s t i a b
+        → writes_pkru insn old ≡ true → IsOpening s t i a b
     moved_own own is free =
         let y : Some old ≡ Some a = sym at ∙ sym (ap (slice_get s.threads) own) ∙ e in
         let z : old ≡ a = cc in
@@ -231,7 +231,7 @@ opened_done d s t i old a b new insn len skip h at f g e k c o =
         → Type 0 = λ x. Goes insn len x new in subst P z g) (is
         ∙ ap (λ (x : Thread). with_origin (trust_of s)
         (sequence_of (record { insn = insn; len = len; skip = skip }) x.rip)
-        new) z) (ap (is_free insn) (sym z) ∙ free)
+        new) z) (ap (writes_pkru insn) (sym z) ∙ free)
 
 -- ---- a step
 
@@ -246,7 +246,7 @@ did_opened : (d : ℕ) (y : Effect) (s : State) (t i : ℕ) (old a b : Thread) (
     (record s {
       steps = s.steps + 1;
     })).threads i ≡ Some b → flag_of (trust_of s) d a ≡ false → flag_of (trust_of s) d b ≡ true
-    → Opened s t i a b
+    → IsOpening s t i a b
 did_opened d (Done new w) s t i old a b insn len skip h at f r e k c o =
     opened_done d s t i old a b new insn len skip h at f
     (done_goes insn len old new w (whole s.rights) s.bytes old.pkru old.rip r) e k c o
@@ -257,10 +257,10 @@ did_opened d (Stopped x) s t i old a b insn len skip h at f r e k c o =
     ∙ k) c o)
 did_opened d Called s t i old a b insn len skip h at f r e k c o =
     let n : State = record s { steps = s.steps + 1 } in
-    absurd (replied_not d (call_result n t (behind_syscall len old)) t i old
-    (behind_syscall len old)
+    absurd (replied_not d (call_result n t (after_syscall len old)) t i old
+    (after_syscall len old)
     a b n at refl (λ v ch q.
-    (all_fine Known n v t (behind_syscall len old) ch (kept_later s h.kept) q).pkru) e k c o)
+    (all_fine Known n v t (after_syscall len old) ch (kept_later s h.kept) q).pkru) e k c o)
 
 moved_opened : (d : ℕ) (x : FetchOutcome) (s : State) (t i : ℕ) (old a b : Thread) → IsGood Known s
     → slice_get s.threads t ≡ Some old → fetch (code s) old.rip ≡ x
@@ -269,7 +269,7 @@ moved_opened : (d : ℕ) (x : FetchOutcome) (s : State) (t i : ℕ) (old a b : T
     (record s {
       steps = s.steps + 1;
     })).threads i ≡ Some b → flag_of (trust_of s) d a ≡ false → flag_of (trust_of s) d b ≡ true
-    → Opened s t i a b
+    → IsOpening s t i a b
 moved_opened d (Runs insn len skip) s t i old a b h at f e k c o =
     did_opened d (effect (plan insn len old)
     (whole s.rights) s.bytes old.pkru old.rip) s t i old a b

@@ -29,10 +29,11 @@ use Rattle.erim_defs.specs.Machine.CallResult.{Change, Refusal, Answer, ThreadEn
 use Rattle.erim_defs.specs.Machine.CallResult.{CallResult}
 use Rattle.erim_defs.specs.Machine.Calls.{call_result}
 use Rattle.erim_defs.specs.Machine.Step.{after_move, after_instruction, after_call, after_fetch}
-use Rattle.erim_defs.specs.Machine.Step.{with_new_thread, caller_after, with_change, behind_syscall}
+use Rattle.erim_defs.specs.Machine.Step.{with_new_thread, caller_after, with_change, after_syscall}
 use Rattle.erim_defs.specs.Machine.Step.{with_end, after_verdict, after_exec_fault, fetch, Runner}
 use Rattle.erim_defs.specs.Machine.Isolation.{IsKept}
-use Rattle.isolation.specs.Laws.{IsPublication, IsRefusal, PublishLaw, RefuseLaw}
+use Rattle.erim_defs.specs.Machine.Lawful.{IsPublication, IsRefusal}
+use Rattle.isolation.specs.Laws.{PublishLaw, RefuseLaw}
 use Rattle.isolation.proofs.KeptLemmas.{IsFine, kept_later, ended_thread, last_either}
 use Rattle.erim_defs.proofs.WriteFaultLemmas.{stop_either, write_either}
 use Rattle.erim_defs.specs.declared.machine.Access.{Access}
@@ -151,7 +152,7 @@ replied_publishes (Refusal e) t q old new s h f g = same_published (s.rights q) 
 replied_publishes (Answer v c) t q old new s h f g =
     call_publishes s new c q (h v c refl) f
     (ap (λ (m : RightsMap). is_published (m q))
-    (sym (made_rights c.made
+    (sym (made_rights c.clone
     (after_move (record {
       runner = record { number = t; thread = old };
       after = (caller_after v c new);
@@ -204,8 +205,8 @@ did_publishes (Done new w) insn len skip t q old s h f g = same_published (s.rig
 did_publishes (Stopped x) insn len skip t q old s h f g =
     same_published (s.rights q) f (stop_published x (record { number = t; thread = old }) s q f g)
 did_publishes Called insn len skip t q old s h f g =
-    replied_publishes (call_result s t (behind_syscall len old)) t q old (behind_syscall len old) s
-    (λ v c k. all_fine Known s v t (behind_syscall len old) c h k) f g
+    replied_publishes (call_result s t (after_syscall len old)) t q old (after_syscall len old) s
+    (λ v c k. all_fine Known s v t (after_syscall len old) c h k) f g
 
 moved_publishes : (y : FetchOutcome) (s : State) (t q : ℕ) (old : Thread) → IsKept s
     → fetch (code s) old.rip ≡ y → is_published (s.rights q) ≡ false
@@ -343,7 +344,7 @@ replied_refuses : (r : CallResult) (t q : ℕ) (found : Found) (u : ℕ) (old ne
 replied_refuses (Refusal e) t q found u old new s n f = refused_not s.end q found u n f
 replied_refuses (Answer v c) t q found u old new s n f =
     refused_not s.end q found u n
-    (sym (made_end c.made (after_move
+    (sym (made_end c.clone (after_move
     (record {
       runner = record { number = t; thread = old };
       after = (caller_after v c new);
@@ -363,8 +364,8 @@ did_refuses (Done new w) insn len skip t q found u old s n f = refused_not s.end
 did_refuses (Stopped x) insn len skip t q found u old s n f =
     stop_refused x (record { number = t; thread = old }) s q found u n f
 did_refuses Called insn len skip t q found u old s n f =
-    replied_refuses (call_result s t (behind_syscall len old)) t q found u old
-    (behind_syscall len old) s n f
+    replied_refuses (call_result s t (after_syscall len old)) t q found u old
+    (after_syscall len old) s n f
 
 moved_refuses : (y : FetchOutcome) (s : State) (t q : ℕ) (found : Found) (u : ℕ) (old : Thread)
     → s.end ≡ None → fetch (code s) old.rip ≡ y

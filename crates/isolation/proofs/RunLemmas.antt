@@ -5,7 +5,7 @@ use Rattle.std.specs.Prelude.{slice_get, slice_set}
 use Rattle.erim_defs.specs.declared.machine.Thread.{Thread}
 use Rattle.erim_defs.specs.Machine.Registers.{register, onward}
 use Rattle.erim_defs.specs.Machine.State.{State, code, trust_of}
-use Rattle.erim_defs.specs.Machine.Step.{flags_word, step, after_fetch, behind_syscall}
+use Rattle.erim_defs.specs.Machine.Step.{flags_word, step, after_fetch, after_syscall}
 use Rattle.erim_defs.specs.Machine.Step.{ready_thread, after_step_of, fetch}
 use Rattle.erim_defs.specs.Machine.Isolation.{Stands}
 use Rattle.isolation.specs.Laws.{CanStep}
@@ -26,7 +26,7 @@ stands_now s t old r e = each_at (λ u. u.live ≡ true
 
 -- a register that SYSCALL leaves
 pub entered_reg : (len n : ℕ) (t : Thread) → n ≢ 1 → n ≢ 11
-    → register (behind_syscall len t) n ≡ register t n
+    → register (after_syscall len t) n ≡ register t n
 entered_reg len n t a b =
     get_or-set_other (slice_set t.regs 1 (onward len t).rip) 11 n (flags_word t.flags) 0 b
     ∙ get_or-set_other t.regs 1 n (onward len t).rip 0 a

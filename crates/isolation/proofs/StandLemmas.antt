@@ -22,7 +22,7 @@ use Rattle.erim_defs.specs.declared.insn.FetchOutcome.TheVariants.{Runs, Need}
 use Rattle.erim_defs.specs.Inspection.Code.{Code, or_else}
 use Rattle.erim_defs.specs.Machine.Pages.{ByteMap, code_bytes}
 use Rattle.erim_defs.specs.Machine.Access.{Seen}
-use Rattle.erim_defs.specs.Machine.Domains.{is_set_but, opened}
+use Rattle.erim_defs.specs.Machine.Domains.{is_set_but, opened_domains}
 use Rattle.erim_defs.specs.Machine.Operands.{immediate}
 use Rattle.erim_defs.specs.declared.insn.Width.TheVariants.{W4}
 use Rattle.erim_defs.proofs.DomainLemmas.{outside_open, pkru_at_home, pkru_closed, pkru_few}
@@ -35,17 +35,17 @@ use Rattle.erim_defs.specs.Machine.Registers.{onward, with_register, eax, regist
 use Rattle.erim_defs.specs.Machine.Alu.{alu, bt, condition}
 use Rattle.erim_defs.specs.Machine.Meaning.{plan, plan_alu, plan_bt, plan_jcc, plan_mov}
 use Rattle.erim_defs.specs.Machine.State.{with_origin, is_escape, is_outside, is_open}
-use Rattle.erim_defs.specs.Machine.Step.{is_free, sequence_of, fetch, fetch_as}
+use Rattle.erim_defs.specs.Machine.Step.{writes_pkru, sequence_of, fetch, fetch_as}
 use Rattle.erim_defs.specs.Machine.Isolation.{IsSafeCode, IsInCheck, Stands, PositionFact}
 use Rattle.erim_defs.proofs.OccurrenceLemmas.{occurrence_few, occurrence_there}
-use Rattle.erim_defs.proofs.SequenceEncodings.{insn_kind}
+use Rattle.encoding_laws.proofs.SequenceEncodings.{insn_kind}
 use Rattle.isolation.proofs.DecoderFacts.{Decoder}
 use Rattle.isolation.proofs.ListLemmas.{OfCode, IsSequence, sequence_fact}
 use Rattle.isolation.proofs.CheckLemmas.{check_fetched}
 use Rattle.erim_defs.proofs.PlanLemmas.{Goes, done_goes}
 use Rattle.erim_defs.specs.Inspection.Trust.{TrustValue, entry_key, is_entry_of, pkru_of, text_key}
 use Rattle.erim_defs.specs.Inspection.Check.{Position, Compare, Branch, Number, Leave, check_insn}
-use Rattle.erim_defs.specs.Inspection.Check.{check_bytes, position_start, compared, pkru_bit}
+use Rattle.erim_defs.specs.Inspection.Check.{check_bytes, position_start, compared_value, pkru_bit}
 use Rattle.erim_defs.specs.Inspection.Safe.{opens_gate}
 use Rattle.erim_defs.specs.Bits.{has_bit}
 
@@ -58,7 +58,7 @@ IsLow c = (a : ℕ) → 2 ^ 47 ≤ a → c a ≡ None
 pub record EntriesIn (trust : TrustValue) : Type 0 where
   pub home : (a : ℕ) → (text_key trust a ≡ entry_key trust a) ⊎ (entry_key trust a ≡ 0)
   pub plain : trust.strict ≡ false → (a p : ℕ) → is_entry_of trust a ≡ true
-      → is_set_but (text_key trust a) (opened trust p) ≡ false
+      → is_set_but (text_key trust a) (opened_domains trust p) ≡ false
 
 pub low_at : (c : Code) (a : ℕ) → IsLow c → is_some (c a) ≡ true → a < 2 ^ 47
 low_at c a l h = elim (cases_lt a (2 ^ 47)) [
@@ -117,23 +117,24 @@ settled_check trust c t w = elim (cases_Bool (is_outside trust t)) [
   })
 ]
 
--- ---- behind a sequence
+-- ---- after a sequence
 
 -- the value that the check compares with brings home, or closes
 compared_home : (trust : TrustValue) (next : ℕ) → EntriesIn trust
-    → is_set_but (text_key trust next) (opened trust (compared trust next)) ≡ false
+    → is_set_but (text_key trust next) (opened_domains trust (compared_value trust next)) ≡ false
 compared_home trust next ent = by trust.strict
   where
     at : (o : ℕ) → (text_key trust next ≡ o) ⊎ (o ≡ 0)
-        → is_set_but (text_key trust next) (opened trust (pkru_of trust o)) ≡ false
-    at o (inl same) = subst (λ (k : ℕ). is_set_but k (opened trust (pkru_of trust o)) ≡ false)
+        → is_set_but (text_key trust next) (opened_domains trust (pkru_of trust o)) ≡ false
+    at o (inl same) = subst (λ (k : ℕ). is_set_but k (opened_domains trust (pkru_of trust o))
+        ≡ false)
         (sym same) (pkru_at_home trust o)
     at o (inr none) = subst (λ (k : ℕ). is_set_but (text_key trust next)
-        (opened trust (pkru_of trust k)) ≡ false) (sym none) (pkru_closed trust
+        (opened_domains trust (pkru_of trust k)) ≡ false) (sym none) (pkru_closed trust
         (text_key trust next))
 
     by : (b : Bool) → is_set_but (text_key trust next)
-        (opened trust (pkru_of trust (cond b (entry_key trust next) 0))) ≡ false
+        (opened_domains trust (pkru_of trust (cond b (entry_key trust next) 0))) ≡ false
     by true = at (entry_key trust next) (ent.home next)
     by false = pkru_closed trust (text_key trust next)
 
@@ -144,14 +145,15 @@ no_gate trust t a h out e = elim (cases_Bool trust.strict) [
   | inr plain ↦ elim (cases_Bool (is_entry_of trust a)) [
     | inr n ↦ rw (plain, n) refl
     | inl y ↦ absurd (let k = h.plain plain a t.pkru y in
-        let g : is_set_but (text_key trust a) (opened trust t.pkru) ≡ true =
-        subst (λ (b : ℕ). is_set_but (text_key trust b) (opened trust t.pkru) ≡ true) e out in
+        let g : is_set_but (text_key trust a) (opened_domains trust t.pkru) ≡ true =
+        subst (λ (b : ℕ). is_set_but (text_key trust b) (opened_domains trust t.pkru)
+        ≡ true) e out in
         let z : false ≡ true = sym k ∙ g in cc)
   ]
 ]
 
 -- an instruction that is free of escape is a sequence
-pub free_kind : (insn : Insn) (t : Thread) → is_free insn t ≡ true
+pub free_kind : (insn : Insn) (t : Thread) → writes_pkru insn t ≡ true
     → (k : SeqKind) × (insn_kind insn ≡ Some k)
 free_kind Wrpkru t f = (WrpkruKind, refl)
 free_kind (Xrstor m) t f = (XrstorKind, refl)
@@ -169,14 +171,16 @@ made_of other k len skip rip is = absurd cc
 -- what is known where its check begins
 first_fact : (trust : TrustValue) (insn : Insn) (k : SeqKind) (next len : ℕ) (t new : Thread)
     → EntriesIn trust → new.rip ≡ next
-    → insn_kind insn ≡ Some k → is_free insn t ≡ true → Goes insn len t new
+    → insn_kind insn ≡ Some k → writes_pkru insn t ≡ true → Goes insn len t new
     → is_outside trust new ≡ true → PositionFact trust k next Compare new
 first_fact trust Wrpkru WrpkruKind next len t new ent at is free g out = λ e.
     let same : eax new ≡ eax t = ap (λ (r : List ℕ). slice_index r 0 % 2 ^ 32) (g.same refl) in
-    let p : new.pkru ≡ compared trust next = g.value refl ∙ sym same ∙ e in
-    let z : is_set_but (text_key trust next) (opened trust (compared trust next)) ≡ true =
-    ap (λ (a : ℕ). is_set_but (text_key trust a) (opened trust (compared trust next))) (sym at)
-    ∙ ap (λ (q : ℕ). is_set_but (text_key trust new.rip) (opened trust q)) (sym p) ∙ out in
+    let p : new.pkru ≡ compared_value trust next = g.value refl ∙ sym same ∙ e in
+    let z : is_set_but (text_key trust next) (opened_domains trust (compared_value trust next))
+    ≡ true =
+    ap (λ (a : ℕ). is_set_but (text_key trust a) (opened_domains trust
+    (compared_value trust next))) (sym at)
+    ∙ ap (λ (q : ℕ). is_set_but (text_key trust new.rip) (opened_domains trust q)) (sym p) ∙ out in
     let y : false ≡ true = sym (compared_home trust next ent) ∙ z in
     absurd cc
 first_fact trust (Xrstor m) XrstorKind next len t new ent at is free g out =
@@ -186,13 +190,13 @@ first_fact trust Wrpkru XrstorKind next len t new ent at is free g out = absurd 
 first_fact trust (Xrstor m) WrpkruKind next len t new ent at is free g out = absurd cc
 first_fact trust other k next len t new ent at is free g out = absurd cc
 
--- an entry behind it would be in trusted text
+-- an entry after it would be in trusted text
 first_gate : (trust : TrustValue) (k : SeqKind) (a : ℕ) (t : Thread) → EntriesIn trust
     → is_outside trust t ≡ true → t.rip ≡ a → opens_gate trust k a ≡ false
 first_gate trust WrpkruKind a t h f e = no_gate trust t a h f e
 first_gate trust XrstorKind a t h f e = refl
 
--- where the thread stands behind it
+-- where the thread stands after it
 pub behind_sequence : (c : Code) (rip new len skip : ℕ) (k : SeqKind) → IsLow c
     → IsSequence k c rip len skip → new ≡ (rip + len) % 2 ^ 64
     → new ≡ rip + skip + (len - skip)
@@ -209,7 +213,7 @@ behind_sequence c rip new len skip k low q e =
 pub free_stands : {N : ℕ → Type 0} → Decoder N
     → (trust : TrustValue) (c : Code) (insn : Insn) (len skip : ℕ) (t new : Thread)
     → EntriesIn trust → OfCode N c → IsLow c
-    → fetch c t.rip ≡ Runs insn len skip → is_free insn t ≡ true → Goes insn len t new
+    → fetch c t.rip ≡ Runs insn len skip → writes_pkru insn t ≡ true → Goes insn len t new
     → Stands trust c (with_origin trust
     (sequence_of (record { insn = insn; len = len; skip = skip }) t.rip) new)
 free_stands d trust c insn len skip t new ent of low f free g =
@@ -243,10 +247,13 @@ free_stands d trust c insn len skip t new ent of low f free g =
 
 -- ---- in its check
 
--- the thread behind an instruction of the check
+-- the thread after an instruction of the check
 abbrev pub place_after : TrustValue → SeqKind → ℕ → Position → ℕ → Thread → Thread
 place_after trust WrpkruKind next Compare len t =
-    record (onward len t) { flags = (alu Cmp w32 (eax t) (compared trust next) t.flags).flags }
+    record (onward len t) {
+      flags = (alu Cmp w32 (eax t)
+          (compared_value trust next) t.flags).flags;
+    }
 place_after trust WrpkruKind next Branch len t = onward len t
 place_after trust WrpkruKind next Number len t = with_register (onward len t) 0 231
 place_after trust WrpkruKind next Leave len t = t
@@ -263,7 +270,7 @@ immediate_is v few = rw (to_z_pos w32 v few) (mod_low v few)
     mod_low : (n : ℕ) → n < 2 ^ 31 → n % 2 ^ 32 ≡ n
     mod_low n l = omega (arith, l)
 
-compared_few : (trust : TrustValue) (next : ℕ) → compared trust next < 2 ^ 31
+compared_few : (trust : TrustValue) (next : ℕ) → compared_value trust next < 2 ^ 31
 compared_few trust next = pkru_few trust (cond trust.strict (entry_key trust next) 0)
 
 pub place_plan : (trust : TrustValue) (k : SeqKind) (next : ℕ) (p : Position) (len : ℕ) (t : Thread)
@@ -271,7 +278,7 @@ pub place_plan : (trust : TrustValue) (k : SeqKind) (next : ℕ) (p : Position) 
     → plan (check_insn trust k next p) len t ≡ Give (place_after trust k next p len t) None
 unfolding plan plan_alu plan_bt plan_jcc plan_mov condition
 place_plan trust WrpkruKind next Compare len t n f =
-    rw (immediate_is (compared trust next) (compared_few trust next)) refl
+    rw (immediate_is (compared_value trust next) (compared_few trust next)) refl
 place_plan trust WrpkruKind next Branch len t n f = rw f refl
 place_plan trust WrpkruKind next Number len t n f = refl
 place_plan trust WrpkruKind next Leave len t n f = absurd (n refl)
@@ -302,7 +309,8 @@ place_fact : (trust : TrustValue) (k : SeqKind) (next : ℕ) (p : Position) (len
     → p ≢ Leave → length t.regs ≡ 16 → PositionFact trust k next p t
     → PositionFact trust k next (place_next p) (place_after trust k next p len t)
 place_fact trust WrpkruKind next Compare len t n l f =
-    compared_not (eax t) (compared trust next) t.flags (omega arith) (compared_few trust next) f
+    compared_not (eax t) (compared_value trust next) t.flags (omega arith)
+    (compared_few trust next) f
 place_fact trust WrpkruKind next Branch len t n l f = tt
 place_fact trust WrpkruKind next Number len t n l f = let h : 0 < length t.regs =
     omega (arith, l) in get_or-set_same t.regs 0 231 0 h
@@ -458,7 +466,8 @@ check_stands d trust c t new wr insn len skip seen bytes pkru rip of safe low re
 -- a thread that was inside and is out has escaped
 leaves : (trust : TrustValue) (free : Bool) (old new : Thread) → free ≡ false
     → is_outside trust old ≡ false → is_outside trust new ≡ true
-    → opened trust new.pkru ≡ opened trust old.pkru → is_escape trust free old new ≡ true
+    → opened_domains trust new.pkru ≡ opened_domains trust old.pkru
+    → is_escape trust free old new ≡ true
 leaves trust free old new f o n p =
     let wide : is_open trust old.pkru ≡ true =
     ap (is_set_but 0) (sym p) ∙ outside_open trust new.pkru (text_key trust new.rip) n in
@@ -472,11 +481,11 @@ pub did_stands : {N : ℕ → Type 0} → Decoder N
     → Stands trust c t
     → fetch c t.rip ≡ Runs insn len skip
     → effect (plan insn len t) seen bytes pkru rip ≡ Done new wr
-    → is_escape trust (is_free insn t) t new ≡ false
+    → is_escape trust (writes_pkru insn t) t new ≡ false
     → Stands trust c (with_origin trust
     (sequence_of (record { insn = insn; len = len; skip = skip }) t.rip) new)
 did_stands d trust c t new wr insn len skip seen bytes pkru rip ent of safe low regs st f h esc =
-    elim (cases_Bool (is_free insn t)) [
+    elim (cases_Bool (writes_pkru insn t)) [
       | inl e ↦ free_stands d trust c insn len skip t new ent of low f e goes
       | inr e ↦ elim (cases_Bool (is_outside trust new)) [
         | inr n ↦ stands_in trust c (sequence_of (record { insn = insn; len = len; skip = skip })
@@ -486,8 +495,8 @@ did_stands d trust c t new wr insn len skip seen bytes pkru rip ent of safe low 
           | inr w ↦ check_stands d trust c t new wr insn len skip seen bytes pkru rip of safe low
               regs w
               f h
-          | inl m ↦ absurd (let k = leaves trust (is_free insn t) t new e m o
-              (ap (opened trust) (goes.pkru e)) in let z : false ≡ true = sym esc ∙ k in cc)
+          | inl m ↦ absurd (let k = leaves trust (writes_pkru insn t) t new e m o
+              (ap (opened_domains trust) (goes.pkru e)) in let z : false ≡ true = sym esc ∙ k in cc)
         ]
       ]
     ]
@@ -540,7 +549,8 @@ pub called_stands : {N : ℕ → Type 0} → Decoder N
     (bytes : ByteMap) (pkru rip : ℕ)
     → OfCode N c → IsSafeCode trust c → Stands trust c t → fetch c t.rip ≡ Runs insn len skip
     → effect (plan insn len t) seen bytes pkru rip ≡ Called → (register t 0 ≡ 231 → ⊥)
-    → opened trust new.pkru ≡ opened trust t.pkru → is_escape trust false t new ≡ false
+    → opened_domains trust new.pkru ≡ opened_domains trust t.pkru
+    → is_escape trust false t new ≡ false
     → is_outside trust new ≡ false
 called_stands d trust c t new insn len skip seen bytes pkru rip of safe (inr w) f h n p esc =
     absurd (n (called_check d trust c t insn len skip seen bytes pkru rip of safe w f h))

@@ -39,7 +39,7 @@ pub clone_leaves : (s : State) (t : Thread) (flags stack v : â„•) (c : Change) â
 unfolding clone_result
 clone_leaves s t flags stack v c h call e =
     let made : Change = (let x = no_change s t in
-    record x { made = Some (new_thread t stack) }) in
+    record x { clone = Some (new_thread t stack) }) in
     let a = refuse_answer (not (eqb (flags % 2 ^ 32) 0x50F00)) 22 v _ c e in
     let b = refuse_answer (leb 16 (length s.threads)) 11 v (Answer (length s.threads + 1) made) c
     a.1 in

@@ -1,9 +1,9 @@
 -- Before an escape, trusted memory is touched by threads that are open in trusted text alone.
-use Rattle.std.proofs.Common.{◌≡◌, ◌≢◌, ◌<◌, ◌≤◌, ◌+◌, ◌*◌, ◌/◌, ◌%◌, ◌^◌, ◌⊎◌, ◌++◌, ◌&&◌, ℕ, zero}
+use Rattle.std.proofs.Common.{◌≡◌, ◌≢◌, ◌<◌, ◌≤◌, ◌+◌, ◌*◌, ◌/◌, ◌%◌, ◌^◌, ◌⊎◌, ◌++◌, ℕ, zero}
 use Rattle.std.proofs.Common.{suc, length, Option, Some, None, Bool, true, false, cond, eqb, ltb}
 use Rattle.std.proofs.Common.{not, is_some, refl, sym, ap, subst, ◌∙◌, arith, inl, inr, eqb-true}
 use Rattle.std.proofs.Common.{eq-eqb}
-use Rattle.std.proofs.lemmas.Bool.{cases_Bool, eqb-false, not-false}
+use Rattle.std.proofs.lemmas.Bool.{cases_Bool, eqb-false}
 use Rattle.erim_defs.specs.declared.found.SeqKind.{SeqKind}
 use Rattle.erim_defs.specs.declared.found.SeqKind.TheVariants.{Wrpkru, Xrstor}
 use Rattle.erim_defs.specs.declared.machine.Rights.{Rights}
@@ -21,20 +21,22 @@ use Rattle.erim_defs.specs.Inspection.Image.{image_trust}
 use Rattle.erim_defs.specs.Machine.Plan.{Plan, Ask, Give, Refuse, Call}
 use Rattle.erim_defs.specs.Machine.Registers.{register}
 use Rattle.erim_defs.specs.Machine.Meaning.{plan}
-use Rattle.erim_defs.specs.Machine.State.{State, code, is_inside, is_outside, trust_of}
+use Rattle.erim_defs.specs.Machine.State.{State, code, is_outside, trust_of}
 use Rattle.erim_defs.specs.Machine.CallResult.{Change, Answer, Quit, no_change}
 use Rattle.erim_defs.specs.Machine.Calls.{write_result}
 use Rattle.erim_defs.specs.Machine.Calls.{call_result}
 use Rattle.erim_defs.specs.Machine.MapCalls.{has_key, PageRange, is_in, with_pages}
-use Rattle.erim_defs.specs.Machine.MapCalls.{with_prot, is_trusted_key, mmap_result}
+use Rattle.erim_defs.specs.Machine.MapCalls.{with_prot, is_denied_key, mmap_result}
 use Rattle.erim_defs.specs.Machine.MapCalls.{munmap_result, mprotect_result}
 use Rattle.erim_defs.specs.Machine.MapCalls.{pkey_mprotect_result}
-use Rattle.erim_defs.specs.Machine.Step.{behind_syscall, fetch}
+use Rattle.erim_defs.specs.Machine.Step.{after_syscall, fetch}
 use Rattle.erim_defs.specs.Machine.Isolation.{IsKept, Stands, PositionFact}
-use Rattle.isolation.specs.Laws.{Reaches, Changes, PageRights, PageBytes, MakesCall, Touches}
-use Rattle.isolation.specs.Laws.{ByInsn, ByWrite, ByCall, TouchLaw}
+use Rattle.erim_defs.specs.Machine.Lawful.{Reaches, Changes, MakesCall, Touches}
+use Rattle.erim_defs.specs.Machine.Lawful.{PageRights, PageBytes}
+use Rattle.erim_defs.specs.Machine.Lawful.{ByInsn, ByWrite, ByCall}
+use Rattle.isolation.specs.Laws.{TouchLaw}
 use Rattle.isolation.proofs.CheckLemmas.{check_fetched}
-use Rattle.erim_defs.proofs.WriteLemmas.{stop_or_none}
+use Rattle.isolation.proofs.WriteLemmas.{stop_or_none}
 use Rattle.isolation.proofs.StandLemmas.{called_check, is_leave, place_after, place_plan, runs_same}
 use Rattle.isolation.proofs.KeptLemmas.{code_kind, entered_zero, reply_quit}
 use Rattle.isolation.proofs.AnswerLemmas.{refuse_answer, answer_is, row_answer, none_of}
@@ -54,7 +56,8 @@ use Rattle.erim_defs.proofs.DomainLemmas.{domain_range, set_but_key}
 use Rattle.erim_defs.specs.Machine.Plan.{Done, Stopped, effect}
 use Rattle.erim_defs.specs.Machine.Pages.{asks_write}
 use Rattle.std.proofs.lemmas.Bool.{and_parts}
-use Rattle.isolation.specs.Laws.{ByFault, Counts, IsOwner}
+use Rattle.erim_defs.specs.Machine.Lawful.{Counts, IsOwner}
+use Rattle.erim_defs.specs.Machine.Lawful.{ByFault}
 use Rattle.isolation.proofs.MapCallLemmas.{not_denied}
 use Rattle.erim_defs.specs.Inspection.Check.{Position, Leave, check_insn, check_bytes}
 
@@ -257,8 +260,8 @@ call_inside domain s t old len v c g (inr w) m is o =
     absurd (let e = called_check decoder (trust_of s) (code s) old m.insn len m.skip
     (whole s.rights) s.bytes old.pkru old.rip (code_kind Known s g.kind) g.kept.safe w m.runs
     m.called in
-    let q = reply_quit s t (behind_syscall len old) (entered_zero len old ∙ e) in
-    let z : Quit (register (behind_syscall len old) 7 % 256) ≡ Answer v c = sym q ∙ m.answered in
+    let q = reply_quit s t (after_syscall len old) (entered_zero len old ∙ e) in
+    let z : Quit (register (after_syscall len old) 7 % 256) ≡ Answer v c = sym q ∙ m.answered in
     cc)
 
 -- ---- what calls touch: one lemma a call
@@ -342,7 +345,7 @@ munmap_open s t addr len v q c e = remaps_open s t q c (munmap_remaps s t addr l
 
 -- a page that is asked anew has its key or one that the caller may give
 anew_open : (s : State) (t : Thread) (prot : ℕ) (key : Option ℕ) (o : Option Rights) (d : ℕ)
-    → is_domain (trust_of s) d ≡ true → is_trusted_key s t key ≡ false
+    → is_domain (trust_of s) d ≡ true → is_denied_key (trust_of s) t.pkru key ≡ false
     → (has_key o d ≡ true → opens_domain (trust_of s) t.pkru d ≡ true)
     → has_key (anew_of prot key o) d ≡ true → opens_domain (trust_of s) t.pkru d ≡ true
 anew_open s t prot key None d is p before after = absurd cc
@@ -353,7 +356,8 @@ anew_open s t prot (Some j) (Some r) d is p before after =
     not_denied (trust_of s) t.pkru j d p one is
 
 prot_open : (s : State) (t : Thread) (q : ℕ) (r : PageRange) (prot : ℕ) (key : Option ℕ)
-    → is_trusted_key s t key ≡ false → IsApart s t r → Opens s t q (with_prot s t r prot key)
+    → is_denied_key (trust_of s) t.pkru key ≡ false → IsApart s t r
+    → Opens s t q (with_prot s t r prot key)
 prot_open s t q r prot key plain apart d is ch k = elim (cases_Bool (is_in r q)) [
   | inl i ↦ elim k [
     | inl before ↦ apart.keyed q d i is before
@@ -435,22 +439,22 @@ touch_by s t old d g st is (ByInsn write insn len skip x f r n k) =
     (owned (trust_of s) write old.pkru d n is
     (reaches_opens write (plan insn len old) s.rights s.bytes old.pkru x d r k))
 touch_by s t old d g st is (ByWrite len v x c m one l h n k) =
-    let at : register (behind_syscall len old) 6 ≡ register old 6 =
+    let at : register (after_syscall len old) 6 ≡ register old 6 =
     entered_reg len 6 old (omega arith) (omega arith) in
-    let count : register (behind_syscall len old) 2 ≡ register old 2 =
+    let count : register (after_syscall len old) 2 ≡ register old 2 =
     entered_reg len 2 old (omega arith) (omega arith) in
-    let z : write_result s (behind_syscall len old) (register (behind_syscall len old) 7)
-    (register (behind_syscall len old) 6) (register (behind_syscall len old) 2) ≡ Answer v c =
-    sym (reply_write s t (behind_syscall len old) (entered_zero len old ∙ one)) ∙ m.answered in
-    let w = write_reads s (behind_syscall len old) (register (behind_syscall len old) 7)
-    (register (behind_syscall len old) 6) (register (behind_syscall len old) 2) v c z in
+    let z : write_result s (after_syscall len old) (register (after_syscall len old) 7)
+    (register (after_syscall len old) 6) (register (after_syscall len old) 2) ≡ Answer v c =
+    sym (reply_write s t (after_syscall len old) (entered_zero len old ∙ one)) ∙ m.answered in
+    let w = write_reads s (after_syscall len old) (register (after_syscall len old) 7)
+    (register (after_syscall len old) 6) (register (after_syscall len old) 2) v c z in
     call_inside d s t old len v c g st m is
     (owned (trust_of s) false old.pkru d n is
-    (stop_opens s.rights false old.pkru (register (behind_syscall len old) 6)
-    (register (behind_syscall len old) 2) x d w.allowed (omega (arith, at, l))
+    (stop_opens s.rights false old.pkru (register (after_syscall len old) 6)
+    (register (after_syscall len old) 2) x d w.allowed (omega (arith, at, l))
     (omega (arith, at, count, h)) k))
 touch_by s t old d g st is (ByCall len v q c m ch k) =
-    call_inside d s t old len v c g st m is (reply_open s v q t (behind_syscall len old) c g.kept
+    call_inside d s t old len v c g st m is (reply_open s v q t (after_syscall len old) c g.kept
     m.answered d is ch k)
 touch_by s t old d g st is (ByFault insn len skip x held f h at w key) =
     let both = and_parts (asks_write held.asked) _ (and_parts held.exec _ w).1 in

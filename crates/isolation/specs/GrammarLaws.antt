@@ -10,7 +10,7 @@ use Rattle.erim_defs.specs.Encoding.Decodes.{Decodes, PrefixFree}
 use Rattle.erim_defs.specs.Encoding.Decoding.{decode}
 use Rattle.erim_defs.specs.Inspection.Trust.{TrustValue}
 use Rattle.erim_defs.specs.Inspection.Check.{Position, check_insn, check_bytes}
-use Rattle.erim_defs.proofs.SequenceEncodings.{EndsInSequence, insn_kind}
+use Rattle.encoding_laws.proofs.SequenceEncodings.{EndsInSequence, insn_kind}
 
 pub record GrammarLaws : Type 0 where
   -- at most one instruction, and no spelling begins another

@@ -6,11 +6,11 @@
 //! text of a domain touches its pages, what a new thread is, which pages are published, and which
 //! are refused. `erim_process` carries them into the contract of
 //! `Process::setup`, and `erim_plain` into the clause of `run`. They rest on two laws of decoding,
-//! of `x86_decode`: one encoding, prefix-free.
+//! of `encoding_laws`: one encoding, prefix-free.
 #![tactic(auto)]
 
 ghost use Rattle.erim_defs.specs.Machine.Isolation.{AlwaysKept};
-ghost use Rattle.isolation.specs.Laws.{ChecksLaw, KeyLaw, LawfulLaw, MadeLaw, OpenLaw, PlainLaw};
+ghost use Rattle.isolation.specs.Laws.{ChecksLaw, KeyLaw, LawfulLaw, CloneLaw, OpenLaw, PlainLaw};
 ghost use Rattle.isolation.specs.Laws.{PublishLaw, RefuseLaw, StartLaw, TouchLaw};
 
 /// The isolation invariant holds in every state of every run.
@@ -19,18 +19,18 @@ pub fn always_kept()
 {}
 
 /// What is found of a setup without running it makes it one that can be started.
-pub fn startable()
+pub fn checked_is_startable()
     ensures { StartLaw }
 {}
 
 /// At the start, trusted data and trusted heaps are mapped with the key of their record, which is a
 /// domain.
-pub fn keyed()
+pub fn trusted_pages_have_their_key()
     ensures { KeyLaw }
 {}
 
 /// A trust note of version 1 means one domain, of key 1.
-pub fn plain()
+pub fn version_1_has_one_domain()
     ensures { PlainLaw }
 {}
 
@@ -43,36 +43,37 @@ pub fn checks_on()
 
 /// Before an escape, only a thread that opens a domain and stands in its text touches its memory.
 /// Reading the pages of an integrity domain isn't touching.
-pub fn touched()
+pub fn only_owners_touch()
     ensures { TouchLaw }
 {}
 
 /// A thread comes to open a domain only by a WRPKRU or an XRSTOR that occurs in the code, and then
 /// stands at an entry, where that is enough, or before the check.
-pub fn opened()
+pub fn opening_takes_a_sequence()
     ensures { OpenLaw }
 {}
 
 /// A thread is made by the system call clone alone. It stands where its maker stands, and opens
 /// what its maker opens; before an escape it is closed or at home, and has no origin.
-pub fn made()
-    ensures { MadeLaw }
+pub fn clone_keeps_rights()
+    ensures { CloneLaw }
 {}
 
 /// A page becomes published exactly at an exec fault on a page that asks to be executed, where
 /// nothing unsafe stands in the code with that page.
-pub fn publishes()
+pub fn publication_is_exact()
     ensures { PublishLaw }
 {}
 
 /// A run ends as refused exactly at such an exec fault, for the first that is unsafe in the code
 /// with that page.
-pub fn refuses()
+pub fn refusal_is_exact()
     ensures { RefuseLaw }
 {}
 
-/// The laws of `touched`, `checks_on`, `opened`, `made`, `publishes` and `refuses`, all of them of
-/// each step of each run from a setup that can be started.
-pub fn lawful()
+/// The laws of `only_owners_touch`, `checks_on`, `opening_takes_a_sequence`, `clone_keeps_rights`,
+/// `publication_is_exact` and `refusal_is_exact`, all of them of each step of each run from a setup
+/// that can be started.
+pub fn steps_are_lawful()
     ensures { LawfulLaw }
 {}

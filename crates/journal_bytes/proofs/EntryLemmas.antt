@@ -4,7 +4,8 @@ use Rattle.std.proofs.Common.{true, false, refl, ap, arith, append_assoc}
 use Rattle.std.proofs.lemmas.List.{append-nil}
 use Rattle.erim_defs.specs.declared.journal.JournalFault.TheVariants.{BadEntry}
 use Rattle.erim_defs.specs.declared.machine.Entry.{Entry}
-use Rattle.erim_defs.specs.Output.Journal.{count_of, entries_from, entry_at, entry_fault, is_entry}
+use Rattle.erim_defs.specs.Output.Journal.{count_of, entries_from, entry_at, entry_fault}
+use Rattle.erim_defs.specs.Output.Journal.{is_journal_entry}
 use Rattle.journal_bytes.specs.Entries.{entries_left, entry_of}
 
 -- a number of entries that isn't 0
@@ -43,13 +44,13 @@ pub fault_begins : (bytes : List ℕ)
 fault_begins bytes = ap (entry_fault 0) (left_all bytes)
 
 pub fault_stops : (bytes : List ℕ) (index : ℕ) → index < count_of bytes
-    → is_entry (entry_of bytes index) ≡ false
+    → is_journal_entry (entry_of bytes index) ≡ false
     → entry_fault index (entries_left bytes index) ≡ Some (BadEntry index)
 unfolding entry_fault
 fault_stops bytes index h test = rw (left_next bytes index h) (rw test refl)
 
 pub fault_goes_on : (bytes : List ℕ) (index : ℕ) → index < count_of bytes
-    → is_entry (entry_of bytes index) ≡ true
+    → is_journal_entry (entry_of bytes index) ≡ true
     → entry_fault index (entries_left bytes index)
     ≡ entry_fault (index + 1) (entries_left bytes (index + 1))
 unfolding entry_fault

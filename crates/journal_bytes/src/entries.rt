@@ -1,11 +1,13 @@
-//! The entries of a journal, of eight bytes each behind the header.
+//! The entries of a journal, of eight bytes each after the header.
 
 ghost use Rattle.std.specs.Prelude.{◌≡◌, ◌<◌, IfOk};
-ghost use Rattle.erim_defs.specs.Output.Journal.{count_of, entries_from, entry_fault, is_entry};
+ghost use Rattle.erim_defs.specs.Output.Journal.{count_of, entries_from, entry_fault};
+ghost use Rattle.erim_defs.specs.Output.Journal.{is_journal_entry};
 ghost use Rattle.journal_bytes.specs.Entries.{HasEntries, entry_of};
 
 use crate::field::{ENTRY_SIZE, HEADER_SIZE, count_of};
 use erim_defs::field::{u16_at, u32_at};
+use erim_defs::limits::{MOST_COUNT, MOST_THREADS, MOST_WORKERS};
 use erim_defs::{Entry, JournalFault};
 use std::alloc::{AllocError, Global};
 
@@ -25,10 +27,13 @@ fn entry_of(bytes: &[u8], index: u32) -> Entry
 }
 
 /// May a journal have it?
-fn is_entry(entry: &Entry) -> bool
-    ensures { result ≡ is_entry entry.now }
+fn is_journal_entry(entry: &Entry) -> bool
+    ensures { result ≡ is_journal_entry entry.now }
 {
-    entry.worker <= 8 && entry.thread <= 15 && entry.count >= 1 && entry.count <= 64
+    entry.worker <= u16::from(MOST_WORKERS)
+        && entry.thread < u16::from(MOST_THREADS)
+        && entry.count >= 1
+        && entry.count <= MOST_COUNT
 }
 
 /// The first that no journal may have.
@@ -38,7 +43,7 @@ pub(crate) fn entry_fault(bytes: &[u8]) -> Option<JournalFault>
     ensures { result ≡ entry_fault 0 (entries_from bytes.now 20 (count_of bytes.now)) }
 {
     for index in 0..count_of(bytes) {
-        if !is_entry(&entry_of(bytes, index)) {
+        if !is_journal_entry(&entry_of(bytes, index)) {
             return Some(JournalFault::BadEntry { index });
         }
     }

@@ -7,6 +7,7 @@ ghost use Rattle.erim_defs.specs.Output.Journal.{journal_fault};
 use crate::entries::entry_fault;
 use crate::field::{ENTRY_SIZE, HEADER_SIZE, budget_of, count_of, frames_of};
 use erim_defs::JournalFault;
+use erim_defs::limits::{LEAST_FRAMES, MOST_FRAMES, MOST_STEPS};
 
 const MARK: [u8; 8] = *b"ERIMJNL1";
 
@@ -36,10 +37,10 @@ pub(crate) fn journal_fault(bytes: &[u8]) -> Option<JournalFault>
         return Some(JournalFault::Magic);
     }
     let budget = budget_of(bytes);
-    if !is_within(1, budget, 4_194_304) {
+    if !is_within(1, budget, MOST_STEPS) {
         return Some(JournalFault::Budget);
     }
-    if !is_within(64, frames_of(bytes), 4096) {
+    if !is_within(LEAST_FRAMES, frames_of(bytes), MOST_FRAMES) {
         return Some(JournalFault::Frames);
     }
     let count = count_of(bytes);

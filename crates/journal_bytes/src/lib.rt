@@ -1,5 +1,5 @@
 //! Journals as bytes: `write_journal` makes those of a journal, and `read_journal` makes a journal
-//! of bytes, or tells their first fault.
+//! of bytes, or says their first fault.
 //!
 //! The bytes are `journal_text` of `erim_defs`' `Journal`, and the fault is `journal_fault` there.
 //! A run saves its journal by the one, and what goes on from a saved journal reads it by the other.

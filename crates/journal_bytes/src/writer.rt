@@ -4,6 +4,7 @@ ghost use Rattle.std.specs.Prelude.{◌≡◌, ◌++◌, ◌≤◌, length, OnOk
 ghost use Rattle.erim_defs.specs.Output.Journal.{IsJournal, JournalValue, entry_bytes};
 ghost use Rattle.erim_defs.specs.Output.Journal.{journal_text};
 
+use erim_defs::field::{u16_bytes, u32_bytes};
 use erim_defs::{Entry, NoMemory};
 use std::alloc::{AllocError, Global};
 
@@ -11,9 +12,9 @@ use std::alloc::{AllocError, Global};
 fn push_entry(bytes: &mut Vec<u8>, entry: &Entry) -> Result<(), AllocError>
     ensures { OnOk result (bytes.new.items ≡ bytes.old.items ++ entry_bytes entry.now) }
 {
-    bytes.extend_from_slice(&entry.worker.to_le_bytes())?;
-    bytes.extend_from_slice(&entry.thread.to_le_bytes())?;
-    bytes.extend_from_slice(&entry.count.to_le_bytes())
+    bytes.extend_from_slice(&u16_bytes(entry.worker))?;
+    bytes.extend_from_slice(&u16_bytes(entry.thread))?;
+    bytes.extend_from_slice(&u32_bytes(entry.count))
 }
 
 /// The bytes of a journal.
@@ -30,9 +31,9 @@ pub fn write_journal(
         IfOk result (λ bytes. bytes.items ≡ journal_text journal) }
 {
     let mut bytes = Vec::from_slice(alloc, b"ERIMJNL1")?;
-    bytes.extend_from_slice(&budget.to_le_bytes())?;
-    bytes.extend_from_slice(&frames.to_le_bytes())?;
-    bytes.extend_from_slice(&(entries.len() as u32).to_le_bytes())?;
+    bytes.extend_from_slice(&u32_bytes(budget))?;
+    bytes.extend_from_slice(&u32_bytes(frames))?;
+    bytes.extend_from_slice(&u32_bytes(entries.len() as u32))?;
     for entry in entries {
         push_entry(&mut bytes, entry)?;
     }

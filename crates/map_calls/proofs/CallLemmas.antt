@@ -12,12 +12,13 @@ use Rattle.erim_defs.specs.declared.machine.Thread.{Thread}
 use Rattle.erim_defs.specs.Inspection.Trust.{TrustValue}
 use Rattle.erim_defs.specs.Machine.CallResult.{CallResult, Refusal, Answer, Change, no_change}
 use Rattle.erim_defs.specs.Machine.CallResult.{or_refuse}
-use Rattle.erim_defs.specs.Machine.MapCalls.{PageRange, range_of, is_past, is_protected, has_pin}
-use Rattle.erim_defs.specs.Machine.MapCalls.{any_page, is_foreign, is_trusted_key, munmap_result}
+use Rattle.erim_defs.specs.Machine.MapCalls.{PageRange, range_of, ends_past_user, is_protected}
+use Rattle.erim_defs.specs.Machine.MapCalls.{has_pin}
+use Rattle.erim_defs.specs.Machine.MapCalls.{any_page, is_foreign, is_denied_key, munmap_result}
 use Rattle.erim_defs.specs.Machine.MapCalls.{protect, with_pages, with_prot}
 use Rattle.erim_defs.specs.Machine.Pages.{RightsMap, ByteMap, asks_exec}
 use Rattle.erim_defs.specs.Machine.State.{State, trust_of}
-use Rattle.map_calls.specs.Guards.{asks_trusted, protects, pins}
+use Rattle.map_calls.specs.Guards.{pins}
 use Rattle.map_calls.specs.Keys.{SeesKeys, is_unheld}
 use Rattle.map_calls.specs.Ranges.{anew, rights_within, zeros_within}
 use Rattle.map_calls.proofs.GuardLemmas.{pins_any}
@@ -25,12 +26,13 @@ use Rattle.map_calls.proofs.GuardLemmas.{pins_any}
 -- a test of a range by what a call sees is the definition's
 pub protected_seen : (s : State) (t : Thread) (r span : PageRange) (trust : TrustValue)
     (rights : RightsMap) (pkru : ℕ) (b : Bool) → trust_of s ≡ trust → s.rights ≡ rights
-    → t.pkru ≡ pkru → span ≡ r → b ≡ protects trust rights pkru span → is_protected s t r ≡ b
+    → t.pkru ≡ pkru → span ≡ r → b ≡ is_protected trust rights pkru span
+    → is_protected (trust_of s) s.rights t.pkru r ≡ b
 protected_seen s t r span trust rights pkru b is_trust is_rights is_pkru same tested =
-    ap (λ x. protects x s.rights t.pkru r) is_trust
-    ∙ (ap (λ x. protects trust x t.pkru r) is_rights
-    ∙ (ap (λ x. protects trust rights x r) is_pkru
-    ∙ sym (tested ∙ ap (protects trust rights pkru) same)))
+    ap (λ x. is_protected x s.rights t.pkru r) is_trust
+    ∙ (ap (λ x. is_protected trust x t.pkru r) is_rights
+    ∙ (ap (λ x. is_protected trust rights x r) is_pkru
+    ∙ sym (tested ∙ ap (is_protected trust rights pkru) same)))
 
 pub pinned_seen : (s : State) (r span : PageRange) (threads : List Thread) (b : Bool)
     → s.threads ≡ threads → span ≡ r → b ≡ list_any (pins span) threads → has_pin s r ≡ b
@@ -46,7 +48,8 @@ passes b e rest h = rw h refl
 
 -- a state with other rights and bytes
 abbrev pub seen_change : State → Thread → RightsMap → ByteMap → Change
-seen_change s t rights bytes = (let c = no_change s t in record c { rights = rights; bytes = bytes })
+seen_change s t rights bytes =
+    (let c = no_change s t in record c { rights = rights; bytes = bytes })
 
 pub same_change : (s : State) (t : Thread) (m new : RightsMap) (b fresh : ByteMap) → m ≡ new
     → b ≡ fresh → seen_change s t m b ≡ seen_change s t new fresh
@@ -71,7 +74,7 @@ change_seen s t r span x rights new bytes fresh is_rights is_bytes same is_new i
 -- ---- munmap
 
 abbrev pub is_invalid : ℕ → ℕ → Bool
-is_invalid addr len = not (addr % 4096 == 0) || (len == 0 || is_past (range_of addr len))
+is_invalid addr len = not (addr % 4096 == 0) || (len == 0 || ends_past_user (range_of addr len))
 
 invalid_any : (a l p : Bool) → l ≡ true → (not a || (l || p)) ≡ true
 invalid_any true l p h = rw h refl
@@ -79,24 +82,26 @@ invalid_any false l p h = refl
 
 pub no_length : (addr len : ℕ) → len ≡ 0 → is_invalid addr len ≡ true
 no_length addr len h =
-    invalid_any (addr % 4096 == 0) (len == 0) (is_past (range_of addr len)) (rw h refl)
+    invalid_any (addr % 4096 == 0) (len == 0) (ends_past_user (range_of addr len)) (rw h refl)
 
 invalid_past : (a l p : Bool) → (not a || p) ≡ true → (not a || (l || p)) ≡ true
 invalid_past true true p h = refl
 invalid_past true false p h = h
 invalid_past false l p h = refl
 
-pub no_range : (addr len : ℕ) → (not (addr % 4096 == 0) || is_past (range_of addr len)) ≡ true
+pub no_range : (addr len : ℕ)
+    → (not (addr % 4096 == 0) || ends_past_user (range_of addr len)) ≡ true
     → is_invalid addr len ≡ true
-no_range addr len h = invalid_past (addr % 4096 == 0) (len == 0) (is_past (range_of addr len)) h
+no_range addr len h = invalid_past (addr % 4096 == 0) (len == 0) (ends_past_user
+    (range_of addr len)) h
 
 valid_all : (a l p : Bool) → a ≡ true → l ≡ false → p ≡ false → (not a || (l || p)) ≡ false
 valid_all a l p h i j = rw (h, i, j) refl
 
 pub is_valid : (addr len : ℕ) → (addr % 4096 == 0) ≡ true → (len == 0) ≡ false
-    → is_past (range_of addr len) ≡ false → is_invalid addr len ≡ false
+    → ends_past_user (range_of addr len) ≡ false → is_invalid addr len ≡ false
 is_valid addr len a l p =
-    valid_all (addr % 4096 == 0) (len == 0) (is_past (range_of addr len)) a l p
+    valid_all (addr % 4096 == 0) (len == 0) (ends_past_user (range_of addr len)) a l p
 
 pub munmap_invalid : (s : State) (t : Thread) (addr len : ℕ) → is_invalid addr len ≡ true
     → munmap_result s t addr len ≡ Refusal EINVAL
@@ -104,44 +109,50 @@ unfolding munmap_result
 munmap_invalid s t addr len h = refuses (is_invalid addr len) EINVAL _ h
 
 pub munmap_protected : (s : State) (t : Thread) (addr len : ℕ) → is_invalid addr len ≡ false
-    → is_protected s t (range_of addr len) ≡ true → munmap_result s t addr len ≡ Refusal EPERM
+    → is_protected (trust_of s) s.rights t.pkru (range_of addr len) ≡ true
+    → munmap_result s t addr len ≡ Refusal EPERM
 unfolding munmap_result
 munmap_protected s t addr len v p =
-    passes (is_invalid addr len) EINVAL _ v ∙ refuses (is_protected s t (range_of addr len)) EPERM _ p
+    passes (is_invalid addr len) EINVAL _ v
+    ∙ refuses (is_protected (trust_of s) s.rights t.pkru (range_of addr len)) EPERM _ p
 
 pub munmap_pinned : (s : State) (t : Thread) (addr len : ℕ) → is_invalid addr len ≡ false
-    → is_protected s t (range_of addr len) ≡ false → has_pin s (range_of addr len) ≡ true
+    → is_protected (trust_of s) s.rights t.pkru (range_of addr len) ≡ false
+    → has_pin s (range_of addr len) ≡ true
     → munmap_result s t addr len ≡ Refusal EAGAIN
 unfolding munmap_result
 munmap_pinned s t addr len v p n =
     passes (is_invalid addr len) EINVAL _ v
-    ∙ (passes (is_protected s t (range_of addr len)) EPERM _ p
+    ∙ (passes (is_protected (trust_of s) s.rights t.pkru (range_of addr len)) EPERM _ p
     ∙ refuses (has_pin s (range_of addr len)) EAGAIN _ n)
 
 pub munmap_done : (s : State) (t : Thread) (addr len : ℕ) → is_invalid addr len ≡ false
-    → is_protected s t (range_of addr len) ≡ false → has_pin s (range_of addr len) ≡ false
+    → is_protected (trust_of s) s.rights t.pkru (range_of addr len) ≡ false
+    → has_pin s (range_of addr len) ≡ false
     → munmap_result s t addr len ≡ Answer 0 (with_pages s t (range_of addr len) None)
 unfolding munmap_result
 munmap_done s t addr len v p n =
     passes (is_invalid addr len) EINVAL _ v
-    ∙ (passes (is_protected s t (range_of addr len)) EPERM _ p
+    ∙ (passes (is_protected (trust_of s) s.rights t.pkru (range_of addr len)) EPERM _ p
     ∙ passes (has_pin s (range_of addr len)) EAGAIN _ n)
 
 -- ---- mprotect and pkey_mprotect
 
 abbrev pub is_wrong : State → ℕ → ℕ → ℕ → Option ℕ → Bool
 is_wrong s addr len prot key =
-    not (addr % 4096 == 0) || (nat_lt 7 prot || (is_past (range_of addr len) || is_foreign s key))
+    not (addr % 4096 == 0) || (nat_lt 7 prot || (ends_past_user (range_of addr len)
+    || is_foreign s key))
 
 right_all : (a p q f : Bool) → a ≡ true → p ≡ false → q ≡ false → f ≡ false
     → (not a || (p || (q || f))) ≡ false
 right_all a p q f h i j k = rw (h, i, j, k) refl
 
 pub is_right : (s : State) (addr len prot : ℕ) (key : Option ℕ) → (addr % 4096 == 0) ≡ true
-    → prot < 8 → is_past (range_of addr len) ≡ false → is_foreign s key ≡ false
+    → prot < 8 → ends_past_user (range_of addr len) ≡ false → is_foreign s key ≡ false
     → is_wrong s addr len prot key ≡ false
 is_right s addr len prot key a p q f =
-    right_all (addr % 4096 == 0) (nat_lt 7 prot) (is_past (range_of addr len)) (is_foreign s key) a
+    right_all (addr % 4096 == 0) (nat_lt 7 prot) (ends_past_user (range_of addr len))
+    (is_foreign s key) a
     (le-ltb 7 prot (omega arith)) q f
 
 wrong_range : (a p q f : Bool) → (not a || q) ≡ true → (not a || (p || (q || f))) ≡ true
@@ -165,30 +176,30 @@ protect_wrong : (s : State) (t : Thread) (addr len prot : ℕ) (key : Option ℕ
 protect_wrong s t addr len prot key w = refuses (is_wrong s addr len prot key) EINVAL _ w
 
 pub protect_no_range : (s : State) (t : Thread) (addr len prot : ℕ) (key : Option ℕ)
-    → (not (addr % 4096 == 0) || is_past (range_of addr len)) ≡ true
+    → (not (addr % 4096 == 0) || ends_past_user (range_of addr len)) ≡ true
     → protect s t addr (range_of addr len) prot key ≡ Refusal EINVAL
 protect_no_range s t addr len prot key h =
     protect_wrong s t addr len prot key (wrong_range (addr % 4096 == 0) (nat_lt 7 prot)
-    (is_past (range_of addr len)) (is_foreign s key) h)
+    (ends_past_user (range_of addr len)) (is_foreign s key) h)
 
 pub protect_no_prot : (s : State) (t : Thread) (addr len prot : ℕ) (key : Option ℕ) → 7 < prot
     → protect s t addr (range_of addr len) prot key ≡ Refusal EINVAL
 protect_no_prot s t addr len prot key h =
     protect_wrong s t addr len prot key (wrong_prot (addr % 4096 == 0) (nat_lt 7 prot)
-    (is_past (range_of addr len)) (is_foreign s key) (lt-ltb 7 prot h))
+    (ends_past_user (range_of addr len)) (is_foreign s key) (lt-ltb 7 prot h))
 
 pub protect_no_key : (s : State) (t : Thread) (addr len prot : ℕ) (key : Option ℕ)
     → is_foreign s key ≡ true → protect s t addr (range_of addr len) prot key ≡ Refusal EINVAL
 protect_no_key s t addr len prot key h =
     protect_wrong s t addr len prot key (wrong_key (addr % 4096 == 0) (nat_lt 7 prot)
-    (is_past (range_of addr len)) (is_foreign s key) h)
+    (ends_past_user (range_of addr len)) (is_foreign s key) h)
 
 -- what decides the rest, with nothing invalid
 pub record Decided (s : State) (t : Thread) (addr len prot : ℕ) (key : Option ℕ)
     (guarded trusted unmapped lost : Bool) : Type 0 where
   pub valid : is_wrong s addr len prot key ≡ false
-  pub guard : is_protected s t (range_of addr len) ≡ guarded
-  pub closed : is_trusted_key s t key ≡ trusted
+  pub guard : is_protected (trust_of s) s.rights t.pkru (range_of addr len) ≡ guarded
+  pub closed : is_denied_key (trust_of s) t.pkru key ≡ trusted
   pub holes : any_page (range_of addr len) (λ q. is_none (s.rights q)) ≡ unmapped
   pub pin : (not (asks_exec prot) && has_pin s (range_of addr len)) ≡ lost
 
@@ -201,7 +212,8 @@ pub protect_is : (s : State) (t : Thread) (addr len prot : ℕ) (key : Option �
 protect_is s t addr len prot key guarded trusted unmapped lost d =
     let done : CallResult = Answer 0 (with_prot s t (range_of addr len) prot key) in
     passes (is_wrong s addr len prot key) EINVAL _ d.valid
-    ∙ decided (is_protected s t (range_of addr len)) guarded (is_trusted_key s t key) trusted
+    ∙ decided (is_protected (trust_of s) s.rights t.pkru (range_of addr len)) guarded
+    (is_denied_key (trust_of s) t.pkru key) trusted
     (any_page (range_of addr len) (λ q. is_none (s.rights q))) unmapped
     (not (asks_exec prot) && has_pin s (range_of addr len)) lost done d.guard d.closed d.holes d.pin
   where
@@ -214,10 +226,10 @@ protect_is s t addr len prot key guarded trusted unmapped lost d =
 
 pub closed_seen : (s : State) (t : Thread) (trust : TrustValue) (pkru : ℕ) (key : Option ℕ)
     (b : Bool) → trust_of s ≡ trust → t.pkru ≡ pkru
-    → b ≡ asks_trusted trust pkru key → is_trusted_key s t key ≡ b
+    → b ≡ is_denied_key trust pkru key → is_denied_key (trust_of s) t.pkru key ≡ b
 closed_seen s t trust pkru None b e h tested = sym tested
 closed_seen s t trust pkru (Some key) b e h tested =
-    ap (λ x. asks_trusted x t.pkru (Some key)) e ∙ ap (λ x. asks_trusted trust x (Some key)) h
+    ap (λ x. is_denied_key x t.pkru (Some key)) e ∙ ap (λ x. is_denied_key trust x (Some key)) h
     ∙ sym tested
 
 pub holes_seen : (s : State) (r span : PageRange) (rights : RightsMap) (b : Bool)

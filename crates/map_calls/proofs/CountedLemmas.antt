@@ -3,7 +3,7 @@ use Rattle.std.proofs.Common.{◌≡◌, ◌<◌, ◌≤◌, ◌^◌, ℕ, zero,
 use Rattle.std.proofs.Common.{Option, None, IsSome, is_some, refl, ap, ◌∙◌, arith, inl, inr}
 use Rattle.std.proofs.lemmas.Bool.{cases_lt}
 use Rattle.erim_defs.specs.declared.machine.Rights.{Rights}
-use Rattle.erim_defs.specs.Machine.Count.{count_below, mapped}
+use Rattle.erim_defs.specs.Machine.Count.{count_below, mapped_pages}
 use Rattle.erim_defs.specs.Machine.Pages.{RightsMap, with_value_at}
 use Rattle.erim_defs.proofs.CountLemmas.{mapped_put}
 use Rattle.map_calls.specs.Ranges.{rights_within}
@@ -65,14 +65,14 @@ frames_of o = cond (is_some o) 1 0
 
 -- what is unmapped is no longer counted
 pub mapped_without : (n : ℕ) (m : RightsMap) (first : ℕ) → first + n ≤ 2 ^ 35
-    → mapped (rights_within m first (first + n) (λ _. None))
-    + count_below n (λ k. is_some (m (first + k))) ≡ mapped m
+    → mapped_pages (rights_within m first (first + n) (λ _. None))
+    + count_below n (λ k. is_some (m (first + k))) ≡ mapped_pages m
 unfolding count_below
 mapped_without zero m first low =
     let e : first + 0 ≡ first = omega arith in
     let same : rights_within m first (first + 0) (λ _. None) ≡ m =
     ap (λ end. rights_within m first end (λ _. None)) e ∙ within_none m first (λ _. None) in
-    let c = ap mapped same in omega (arith, c)
+    let c = ap mapped_pages same in omega (arith, c)
 mapped_without (suc n) m first low =
     let p : ℕ = first + n in
     let cleared : RightsMap = rights_within m first p (λ _. None) in
@@ -84,5 +84,5 @@ mapped_without (suc n) m first low =
     let here : cleared p ≡ m p = within_behind m first p p (λ _. None) (omega arith) in
     let one : frames_of (cleared p) ≡ frames_of (m p) = ap frames_of here in
     let rest = mapped_without n m first (omega arith) in
-    let c = ap mapped same in
+    let c = ap mapped_pages same in
     omega (arith, put, one, rest, c)

@@ -1,20 +1,19 @@
 -- What a call may not touch, tested by the spans of trusted text and by the threads.
 use Rattle.std.proofs.Common.{◌≡◌, ◌<◌, ◌≤◌, ◌^◌, ℕ, ◌+◌, ◌-◌, ◌*◌, ◌/◌, ◌&&◌, ◌||◌, Bool, true}
 use Rattle.std.proofs.Common.{false, nat_lt, nat_le, min, List, [], ◌∷◌, Some, refl, sym, ap, ◌∙◌}
-use Rattle.std.proofs.Common.{not, arith}
+use Rattle.std.proofs.Common.{arith}
 use Rattle.std.specs.List.{list_any}
 use Rattle.std.specs.Int.{div_ceil}
 use Rattle.std.proofs.lemmas.Bool.Decides.{nat_tests}
 use Rattle.erim_defs.specs.declared.found.Found.{Found}
 use Rattle.erim_defs.specs.declared.machine.Thread.{Thread}
 use Rattle.erim_defs.specs.declared.trust.Span.{Span}
-use Rattle.erim_defs.specs.declared.page.TheConstants.{TRUSTED_KEY}
 use Rattle.erim_defs.specs.Inspection.Trust.{TrustValue, spans}
-use Rattle.erim_defs.specs.Machine.Access.{opens}
 use Rattle.erim_defs.specs.Machine.MapCalls.{any_page, PageRange, is_pinned, has_byte_on}
 use Rattle.erim_defs.specs.Machine.Least.{any_below}
 use Rattle.erim_defs.specs.Machine.Pages.{RightsMap}
-use Rattle.map_calls.specs.Guards.{denies, meets_span, pins, protects}
+use Rattle.erim_defs.specs.Machine.MapCalls.{is_denied_page, is_protected}
+use Rattle.map_calls.specs.Guards.{meets_span, pins}
 use Rattle.map_calls.proofs.RangeLemmas.{any_page_none, any_page_same, any_below_either}
 
 -- ---- trusted text
@@ -30,11 +29,12 @@ texts_any r (t ∷ ts) =
 -- whether a range is protected, by the two tests
 pub protects_by : (trust : TrustValue) (rights : RightsMap) (pkru : ℕ) (r : PageRange)
     (text keyed : Bool) → text ≡ list_any (meets_span r) trust.texts
-    → keyed ≡ any_page r (λ q. denies trust pkru (rights q))
-    → (text || keyed) ≡ protects trust rights pkru r
+    → keyed ≡ any_page r (λ q. is_denied_page trust pkru (rights q))
+    → (text || keyed) ≡ is_protected trust rights pkru r
 protects_by trust rights pkru r text keyed is_text is_keyed =
     rw (is_text, is_keyed)
-    (ap (λ b. b || any_page r (λ q. denies trust pkru (rights q))) (sym (texts_any r trust.texts)))
+    (ap (λ b. b || any_page r (λ q. is_denied_page trust pkru (rights q))) (sym
+    (texts_any r trust.texts)))
 
 ceil_le : (x q : ℕ) → nat_le (div_ceil x 4096) q ≡ nat_le x (4096 * q)
 ceil_le x q = grind (arith, nat_tests)
@@ -42,7 +42,7 @@ ceil_le x q = grind (arith, nat_tests)
 ceil_lt : (x q : ℕ) → nat_lt q (div_ceil x 4096) ≡ nat_lt (4096 * q) x
 ceil_lt x q = grind (arith, nat_tests)
 
--- a sum that stays below 2^64 tells the same of user memory
+-- a sum that stays below 2^64 says the same of user memory
 capped : (x q : ℕ) → q < 2 ^ 35 → nat_lt (4096 * q) (min x (2 ^ 64 - 1)) ≡ nat_lt (4096 * q) x
 capped x q low = grind (arith, nat_tests)
 

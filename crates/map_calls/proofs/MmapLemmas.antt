@@ -8,36 +8,38 @@ use Rattle.erim_defs.specs.declared.linux.TheConstants.{EPERM, EAGAIN, EINVAL, E
 use Rattle.erim_defs.specs.declared.linux.TheConstants.{MAP_ANYWHERE, MAP_AT}
 use Rattle.erim_defs.specs.declared.machine.Thread.{Thread}
 use Rattle.erim_defs.specs.Machine.CallResult.{CallResult, Refusal, Answer, or_refuse}
-use Rattle.erim_defs.specs.Machine.Count.{mapped}
-use Rattle.erim_defs.specs.Machine.MapCalls.{PageRange, range_of, is_past, is_protected, has_pin}
-use Rattle.erim_defs.specs.Machine.MapCalls.{mapped_in, mmap_at, mmap_anywhere, mmap_from, mmap_result}
+use Rattle.erim_defs.specs.Machine.Count.{mapped_pages}
+use Rattle.erim_defs.specs.Machine.MapCalls.{PageRange, range_of, ends_past_user, is_protected}
+use Rattle.erim_defs.specs.Machine.MapCalls.{has_pin}
+use Rattle.erim_defs.specs.Machine.MapCalls.{mapped_in, mmap_at, mmap_anywhere, mmap_from}
+use Rattle.erim_defs.specs.Machine.MapCalls.{mmap_result}
 use Rattle.erim_defs.specs.Machine.MapCalls.{new_rights, with_pages, lowest_free}
 use Rattle.erim_defs.specs.Machine.Pages.{RightsMap}
-use Rattle.erim_defs.specs.Machine.State.{State}
+use Rattle.erim_defs.specs.Machine.State.{State, trust_of}
 use Rattle.map_calls.proofs.CallLemmas.{passes, refuses}
 
 -- ---- mmap_at
 
 abbrev pub is_misplaced : ℕ → ℕ → Bool
 is_misplaced addr len =
-    not (addr % 4096 == 0) || (nat_lt addr LOWEST_FIXED || is_past (range_of addr len))
+    not (addr % 4096 == 0) || (nat_lt addr LOWEST_FIXED || ends_past_user (range_of addr len))
 
 placed_all : (a b p : Bool) → a ≡ true → b ≡ false → p ≡ false → (not a || (b || p)) ≡ false
 placed_all a b p h i j = rw (h, i, j) refl
 
 pub is_placed : (addr len : ℕ) → (addr % 4096 == 0) ≡ true → LOWEST_FIXED ≤ addr
-    → is_past (range_of addr len) ≡ false → is_misplaced addr len ≡ false
+    → ends_past_user (range_of addr len) ≡ false → is_misplaced addr len ≡ false
 is_placed addr len a b p =
-    placed_all (addr % 4096 == 0) (nat_lt addr LOWEST_FIXED) (is_past (range_of addr len)) a
+    placed_all (addr % 4096 == 0) (nat_lt addr LOWEST_FIXED) (ends_past_user (range_of addr len)) a
     (le-ltb addr LOWEST_FIXED b) p
 
 -- what decides a fixed range
 pub record Settled (s : State) (t : Thread) (addr len : ℕ) (guarded short pinned : Bool)
     : Type 0 where
   pub placed : is_misplaced addr len ≡ false
-  pub guard : is_protected s t (range_of addr len) ≡ guarded
+  pub guard : is_protected (trust_of s) s.rights t.pkru (range_of addr len) ≡ guarded
   pub room : nat_lt (s.setup.frames + mapped_in s.rights (range_of addr len))
-      (mapped s.rights + (range_of addr len).count) ≡ short
+      (mapped_pages s.rights + (range_of addr len).count) ≡ short
   pub pin : has_pin s (range_of addr len) ≡ pinned
 
 pub mmap_at_is : (s : State) (t : Thread) (addr len prot : ℕ) (guarded short pinned : Bool)
@@ -48,9 +50,10 @@ pub mmap_at_is : (s : State) (t : Thread) (addr len prot : ℕ) (guarded short p
 mmap_at_is s t addr len prot guarded short pinned d =
     let done : CallResult = Answer addr (with_pages s t (range_of addr len) (new_rights prot)) in
     passes (is_misplaced addr len) EINVAL _ d.placed
-    ∙ decided (is_protected s t (range_of addr len)) guarded
+    ∙ decided (is_protected (trust_of s) s.rights t.pkru (range_of addr len)) guarded
     (nat_lt (s.setup.frames + mapped_in s.rights (range_of addr len))
-    (mapped s.rights + (range_of addr len).count)) short (has_pin s (range_of addr len)) pinned done
+    (mapped_pages s.rights + (range_of addr len).count)) short (has_pin s
+    (range_of addr len)) pinned done
     d.guard d.room d.pin
   where
     decided : (a b c d e f : Bool) (done : CallResult) → a ≡ b → c ≡ d → e ≡ f
@@ -65,32 +68,34 @@ enough free m frames counted count sum fits =
 
 -- there are frames enough for a fixed range
 pub room_seen : (s : State) (r span : PageRange) (rights : RightsMap) (frames free counted : ℕ)
-    → s.rights ≡ rights → s.setup.frames ≡ frames → span ≡ r → free + mapped rights ≡ frames
+    → s.rights ≡ rights → s.setup.frames ≡ frames → span ≡ r → free + mapped_pages rights ≡ frames
     → counted ≡ mapped_in rights span → span.count ≤ counted + free
-    → nat_lt (s.setup.frames + mapped_in s.rights r) (mapped s.rights + r.count) ≡ false
+    → nat_lt (s.setup.frames + mapped_in s.rights r) (mapped_pages s.rights + r.count) ≡ false
 room_seen s r span rights frames free counted is_rights is_frames same sum is_counted fits =
-    ap (λ (x : RightsMap). nat_lt (s.setup.frames + mapped_in x r) (mapped x + r.count)) is_rights
-    ∙ (ap (λ n. nat_lt (n + mapped_in rights r) (mapped rights + r.count)) is_frames
-    ∙ (sym (ap (λ (x : PageRange). nat_lt (frames + mapped_in rights x) (mapped rights + x.count)) same)
-    ∙ (sym (ap (λ n. nat_lt (frames + n) (mapped rights + span.count)) is_counted)
-    ∙ enough free (mapped rights) frames counted span.count sum fits)))
+    ap (λ (x : RightsMap). nat_lt (s.setup.frames + mapped_in x r)
+    (mapped_pages x + r.count)) is_rights
+    ∙ (ap (λ n. nat_lt (n + mapped_in rights r) (mapped_pages rights + r.count)) is_frames
+    ∙ (sym (ap (λ (x : PageRange). nat_lt (frames + mapped_in rights x)
+    (mapped_pages rights + x.count)) same)
+    ∙ (sym (ap (λ n. nat_lt (frames + n) (mapped_pages rights + span.count)) is_counted)
+    ∙ enough free (mapped_pages rights) frames counted span.count sum fits)))
 
 -- ---- mmap_anywhere
 
 pub mmap_anywhere_is : (s : State) (t : Thread) (count prot first frames free : ℕ)
     (rights : RightsMap) → s.rights ≡ rights → s.setup.frames ≡ frames
-    → free + mapped rights ≡ frames → count ≤ free → lowest_free rights count ≡ Some first
+    → free + mapped_pages rights ≡ frames → count ≤ free → lowest_free rights count ≡ Some first
     → mmap_anywhere s t count prot
     ≡ Answer (4096 * first)
     (with_pages s t (record { first = first; count = count }) (new_rights prot))
 mmap_anywhere_is s t count prot first frames free rights is_rights is_frames sum fits found =
-    let room : nat_lt s.setup.frames (mapped s.rights + count) ≡ false =
-    ap (λ (x : RightsMap). nat_lt s.setup.frames (mapped x + count)) is_rights
-    ∙ (ap (λ n. nat_lt n (mapped rights + count)) is_frames
-    ∙ le-ltb frames (mapped rights + count) (omega (arith, sum, fits))) in
+    let room : nat_lt s.setup.frames (mapped_pages s.rights + count) ≡ false =
+    ap (λ (x : RightsMap). nat_lt s.setup.frames (mapped_pages x + count)) is_rights
+    ∙ (ap (λ n. nat_lt n (mapped_pages rights + count)) is_frames
+    ∙ le-ltb frames (mapped_pages rights + count) (omega (arith, sum, fits))) in
     let lowest : lowest_free s.rights count ≡ Some first =
     ap (λ (x : RightsMap). lowest_free x count) is_rights ∙ found in
-    passes (nat_lt s.setup.frames (mapped s.rights + count)) ENOMEM
+    passes (nat_lt s.setup.frames (mapped_pages s.rights + count)) ENOMEM
     (mmap_from s t count prot (lowest_free s.rights count)) room
     ∙ ap (mmap_from s t count prot) lowest
 

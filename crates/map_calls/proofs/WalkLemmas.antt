@@ -1,6 +1,7 @@
 -- A walk over the mapped pages of a range changes each page of it.
 use Rattle.std.proofs.Common.{◌≡◌, ◌≢◌, ℕ, ◌<◌, ◌≤◌, ◌+◌, ◌/◌, ◌&&◌, Option, None, Bool, true}
-use Rattle.std.proofs.Common.{cond, false, nat_lt, nat_le, eqb, eqb-true, refl, sym, ap, ◌∙◌, arith, inl, inr}
+use Rattle.std.proofs.Common.{cond, false, nat_lt, nat_le, eqb, eqb-true, refl, sym, ap, ◌∙◌, arith}
+use Rattle.std.proofs.Common.{inl, inr}
 use Rattle.std.proofs.lemmas.Bool.{cases_Bool, cases_lt, eqb-false}
 use Rattle.std.proofs.lemmas.Bool.Decides.{nat_tests}
 use Rattle.std.proofs.Math.Path.{fun_ext}
@@ -74,7 +75,8 @@ within_twice m first end x y =
 
 pub zeros_twice : (b : ByteMap) (first end : ℕ)
     → zeros_within (zeros_within b first end) first end ≡ zeros_within b first end
-zeros_twice b first end = fun_ext (λ a. twice (nat_le first (a / 4096) && nat_lt (a / 4096) end) (b a))
+zeros_twice b first end = fun_ext (λ a. twice (nat_le first (a / 4096)
+    && nat_lt (a / 4096) end) (b a))
   where
     twice : (c : Bool) (x : ℕ) → cond c 0 (cond c 0 x) ≡ cond c 0 x
     twice true x = refl

@@ -4,7 +4,7 @@ use Rattle.erim_defs.specs.declared.machine.Thread.{Thread}
 use Rattle.erim_defs.specs.Inspection.Trust.{TrustValue}
 use Rattle.erim_defs.specs.Machine.CallResult.{CallResult, Refusal, Answer, no_change}
 use Rattle.erim_defs.specs.Machine.State.{State, trust_of}
-use Rattle.page_store.specs.Answers.{rights_in}
+use Rattle.erim_defs.specs.Machine.Access.{rights_in}
 use Rattle.page_store.specs.declared.memory.Memory.{Ghosts}
 
 -- the state that a call sees
@@ -17,9 +17,9 @@ pub record Sees {P : Type 0} (g : Ghosts P) (text : TrustValue) (pages : P) (ts 
   pub trust : trust_of s ≡ text
 
 -- what it gave, with the pages afterwards
-abbrev pub answered : {P : Type 0} → Ghosts P → State → Thread → P → Result ℕ ℕ → CallResult
-answered g s t new (Err e) = Refusal e
-answered g s t new (Ok v) = Answer v (let c = no_change s t in record c {
+abbrev pub map_answer : {P : Type 0} → Ghosts P → State → Thread → P → Result ℕ ℕ → CallResult
+map_answer g s t new (Err e) = Refusal e
+map_answer g s t new (Ok v) = Answer v (let c = no_change s t in record c {
   rights = rights_in (g.seen new);
   bytes = g.bytes new;
 })

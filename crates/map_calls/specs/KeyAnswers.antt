@@ -26,7 +26,7 @@ pub record HasKeys (s : State) (t : Thread) (keys : Keys) (pkru : ℕ) : Type 0 
   pub rights : t.pkru ≡ pkru
 
 -- what came of a call: an error, or an answer with these keys and this PKRU
-abbrev pub keyed : State → Thread → Keys → ℕ → Result ℕ ℕ → CallResult
-keyed s t keys pkru (Err e) = Refusal e
-keyed s t keys pkru (Ok v) =
+abbrev pub key_answer : State → Thread → Keys → ℕ → Result ℕ ℕ → CallResult
+key_answer s t keys pkru (Err e) = Refusal e
+key_answer s t keys pkru (Ok v) =
     Answer v (let c = no_change s t in record c { keys = key_map keys; pkru = pkru })

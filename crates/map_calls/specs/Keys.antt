@@ -1,5 +1,6 @@
 -- The key that a call names. Linux: pkeys(7). Own.
-use Rattle.std.specs.Prelude.{◌≡◌, ℕ, ◌<◌, ◌%◌, ◌^◌, ◌==◌, ◌&&◌, not, nat_lt, Bool, true, false, Option}
+use Rattle.std.specs.Prelude.{◌≡◌, ℕ, ◌<◌, ◌%◌, ◌^◌, ◌==◌, ◌&&◌, not, nat_lt, Bool, true, false}
+use Rattle.std.specs.Prelude.{Option}
 use Rattle.std.specs.Prelude.{Some, None, IfSome, Result, Ok, Err, if◌then◌else◌}
 use Rattle.erim_defs.specs.declared.linux.TheConstants.{ANY_KEY, EINVAL, KEYS}
 use Rattle.erim_defs.specs.declared.machine.Keys.{Keys}

@@ -1,26 +1,28 @@
 -- Ranges of pages, and what is done to each of their pages. Own.
-use Rattle.std.specs.Prelude.{◌≡◌, ℕ, ◌+◌, ◌/◌, ◌%◌, ◌<◌, ◌≤◌, ◌==◌, ◌&&◌, ◌||◌, not, nat_lt, nat_le}
+use Rattle.std.specs.Prelude.{◌≡◌, ℕ, ◌+◌, ◌/◌, ◌%◌, ◌<◌, ◌≤◌, ◌==◌, ◌&&◌, ◌||◌, not, nat_lt}
+use Rattle.std.specs.Prelude.{nat_le}
 use Rattle.std.specs.Prelude.{true, false, Option, Some, None, IsSome, Result, Ok, Err}
 use Rattle.std.specs.Prelude.{if◌then◌else◌, option_map}
 use Rattle.erim_defs.specs.declared.linux.TheConstants.{EINVAL, ENOMEM}
 use Rattle.erim_defs.specs.declared.machine.Rights.{Rights}
-use Rattle.erim_defs.specs.Machine.MapCalls.{PageRange, range_of, is_past, asked_anew, key_or}
+use Rattle.erim_defs.specs.Machine.MapCalls.{PageRange, range_of, ends_past_user, asked_anew}
+use Rattle.erim_defs.specs.Machine.MapCalls.{key_or}
 use Rattle.erim_defs.specs.Machine.MapCalls.{lowest_free}
 use Rattle.erim_defs.specs.Machine.Pages.{RightsMap, ByteMap}
-use Rattle.map_calls.specs.declared.range.PageSpan.{PageSpan}
+use Rattle.map_calls.specs.declared.range.UserRange.{UserRange}
 
--- a span as a range
-abbrev pub pages_of : PageSpan → PageRange
-pages_of r = record { first = r.first; count = r.count }
+-- the pages of a range
+abbrev pub page_range : UserRange → PageRange
+page_range r = record { first = r.first; count = r.count }
 
--- the pages that so many bytes from an address on cover, or EINVAL where the address isn't that of a
--- page or they end past user memory
-abbrev pub Covers : ℕ → ℕ → Result PageSpan ℕ → Type 0
+-- the pages that a given number of bytes from an address on cover, or EINVAL where the address
+-- isn't that of a page or they end past user memory
+abbrev pub Covers : ℕ → ℕ → Result UserRange ℕ → Type 0
 Covers addr len (Err e) =
-    (e ≡ EINVAL) × ((not (addr % 4096 == 0) || is_past (range_of addr len)) ≡ true)
+    (e ≡ EINVAL) × ((not (addr % 4096 == 0) || ends_past_user (range_of addr len)) ≡ true)
 Covers addr len (Ok r) =
-    ((addr % 4096 == 0) ≡ true) × (is_past (range_of addr len) ≡ false)
-    × (pages_of r ≡ range_of addr len)
+    ((addr % 4096 == 0) ≡ true) × (ends_past_user (range_of addr len) ≡ false)
+    × (page_range r ≡ range_of addr len)
 
 -- the least mapped page from one on, up to an end
 abbrev pub IsNextIn : RightsMap → ℕ → ℕ → Option ℕ → Type 0
@@ -33,10 +35,10 @@ abbrev pub IsUnmapped : RightsMap → PageRange → Type 0
 IsUnmapped rights r = (q : ℕ) → r.first ≤ q → q < r.first + r.count → rights q ≡ None
 
 -- the lowest free pages, so many, or ENOMEM
-abbrev pub IsLowestFree : RightsMap → ℕ → Result PageSpan ℕ → Type 0
+abbrev pub IsLowestFree : RightsMap → ℕ → Result UserRange ℕ → Type 0
 IsLowestFree rights count (Err e) = (e ≡ ENOMEM) × (lowest_free rights count ≡ None)
 IsLowestFree rights count (Ok r) =
-    (r.count ≡ count) × (lowest_free rights count ≡ Some r.first) × IsUnmapped rights (pages_of r)
+    (r.count ≡ count) × (lowest_free rights count ≡ Some r.first) × IsUnmapped rights (page_range r)
 
 -- the rights of a page that is asked anew, with another key where there is one
 abbrev pub anew : ℕ → Option ℕ → Option Rights → Option Rights

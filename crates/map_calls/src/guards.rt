@@ -4,34 +4,35 @@
 ghost use Rattle.std.specs.Prelude.{◌≡◌, ◌<◌, ◌^◌};
 ghost use Rattle.std.specs.List.{list_any};
 ghost use Rattle.erim_defs.specs.Machine.MapCalls.{any_page, has_byte_on, is_pinned};
-ghost use Rattle.map_calls.specs.Guards.{denies, meets_span, protects, pins};
-ghost use Rattle.map_calls.specs.Ranges.{pages_of};
-ghost use Rattle.page_store.specs.Answers.{rights_in};
+ghost use Rattle.erim_defs.specs.Machine.MapCalls.{is_denied_page, is_protected};
+ghost use Rattle.map_calls.specs.Guards.{meets_span, pins};
+ghost use Rattle.map_calls.specs.Ranges.{page_range};
+ghost use Rattle.erim_defs.specs.Machine.Access.{rights_in};
 
-use crate::range::PageSpan;
+use crate::range::UserRange;
 use crate::walk::next_in;
 use erim_defs::page::PAGE_SIZE;
 use erim_defs::{Found, Span, Thread, Trust};
 use page_store::{Memory, Pages};
 
 /// Is the first byte of a page of the range in a range of addresses?
-fn meets_span(range: &PageSpan, span: &Span) -> bool
-    ensures { result ≡ meets_span (pages_of range.now) span.now }
+fn meets_span(range: &UserRange, span: &Span) -> bool
+    ensures { result ≡ meets_span (page_range range.now) span.now }
 {
     let end = span.start.saturating_add(span.length);
     range.meets(span.start.div_ceil(PAGE_SIZE), end.div_ceil(PAGE_SIZE))
 }
 
 /// Has the range a page of trusted text?
-fn has_text(trust: &Trust, range: &PageSpan) -> bool
-    ensures { result ≡ list_any (meets_span (pages_of range.now)) trust.now.texts }
+fn has_text(trust: &Trust, range: &UserRange) -> bool
+    ensures { result ≡ list_any (meets_span (page_range range.now)) trust.now.texts }
 {
     trust.texts().iter().any(|text| meets_span(range, text))
 }
 
 /// Has a page the key of a domain that isn't open?
-fn is_keyed<P: Pages>(pages: &P, trust: &Trust, pkru: u32, page: u64) -> bool
-    ensures { result ≡ denies trust.now pkru (rights_in (P.seen pages.now) page) }
+fn is_denied_page<P: Pages>(pages: &P, trust: &Trust, pkru: u32, page: u64) -> bool
+    ensures { result ≡ is_denied_page trust.now pkru (rights_in (P.seen pages.now) page) }
 {
     match pages.rights(page) {
         Some(rights) => trust.is_denied(pkru, rights.key),
@@ -40,13 +41,13 @@ fn is_keyed<P: Pages>(pages: &P, trust: &Trust, pkru: u32, page: u64) -> bool
 }
 
 /// Has the range a page of a domain that isn't open?
-fn has_keyed<P: Pages>(pages: &P, trust: &Trust, pkru: u32, range: &PageSpan) -> bool
-    ensures { result ≡ any_page (pages_of range.now)
-        (λ q. denies trust.now pkru (rights_in (P.seen pages.now) q)) }
+fn has_denied_page<P: Pages>(pages: &P, trust: &Trust, pkru: u32, range: &UserRange) -> bool
+    ensures { result ≡ any_page (page_range range.now)
+        (λ q. is_denied_page trust.now pkru (rights_in (P.seen pages.now) q)) }
 {
     let mut from = range.first;
     while let Some(page) = next_in(pages, from, range.end()) {
-        if is_keyed(pages, trust, pkru, page) {
+        if is_denied_page(pages, trust, pkru, page) {
             return true;
         }
         from = page + 1;
@@ -55,15 +56,15 @@ fn has_keyed<P: Pages>(pages: &P, trust: &Trust, pkru: u32, range: &PageSpan) ->
 }
 
 /// Is the range protected from a caller with this PKRU?
-pub(crate) fn is_protected<P: Pages>(pages: &P, trust: &Trust, pkru: u32, range: &PageSpan) -> bool
-    ensures { result ≡ protects trust.now (rights_in (P.seen pages.now)) pkru (pages_of range.now) }
+pub(crate) fn is_protected<P: Pages>(pages: &P, trust: &Trust, pkru: u32, range: &UserRange) -> bool
+    ensures { result ≡ is_protected trust.now (rights_in (P.seen pages.now)) pkru (page_range range.now) }
 {
-    has_text(trust, range) || has_keyed(pages, trust, pkru, range)
+    has_text(trust, range) || has_denied_page(pages, trust, pkru, range)
 }
 
 /// Has the range a page with a byte of an origin?
-fn meets_origin(range: &PageSpan, origin: &Found) -> bool
-    ensures { result ≡ any_page (pages_of range.now) (has_byte_on (Some origin.now)) }
+fn meets_origin(range: &UserRange, origin: &Found) -> bool
+    ensures { result ≡ any_page (page_range range.now) (has_byte_on (Some origin.now)) }
 {
     let last = origin
         .at
@@ -73,8 +74,8 @@ fn meets_origin(range: &PageSpan, origin: &Found) -> bool
 }
 
 /// Does a thread pin a page of the range?
-fn pins(thread: &Thread, range: &PageSpan) -> bool
-    ensures { result ≡ pins (pages_of range.now) thread.now }
+fn pins(thread: &Thread, range: &UserRange) -> bool
+    ensures { result ≡ pins (page_range range.now) thread.now }
 {
     match thread.origin {
         Some(origin) => thread.live && meets_origin(range, &origin),
@@ -83,8 +84,8 @@ fn pins(thread: &Thread, range: &PageSpan) -> bool
 }
 
 /// Is a page of the range pinned?
-pub(crate) fn has_pin(threads: &[Thread], range: &PageSpan) -> bool
-    ensures { result ≡ list_any (pins (pages_of range.now)) threads.now }
+pub(crate) fn has_pin(threads: &[Thread], range: &UserRange) -> bool
+    ensures { result ≡ list_any (pins (page_range range.now)) threads.now }
 {
     threads.iter().any(|thread| pins(thread, range))
 }
@@ -96,7 +97,7 @@ pub fn is_pinned(threads: &[Thread], page: u64) -> bool
 {
     has_pin(
         threads,
-        &PageSpan {
+        &UserRange {
             first: page,
             count: 1,
         },

@@ -6,7 +6,7 @@ ghost use Rattle.erim_defs.specs.declared.machine.Thread.{Thread};
 ghost use Rattle.erim_defs.specs.Machine.State.{State, trust_of};
 ghost use Rattle.erim_defs.specs.Machine.MapCalls.{with_key_rights, pkey_alloc_result};
 ghost use Rattle.erim_defs.specs.Machine.MapCalls.{pkey_free_result};
-ghost use Rattle.map_calls.specs.KeyAnswers.{HasKeys, is_freeable, keyed, least_free};
+ghost use Rattle.map_calls.specs.KeyAnswers.{HasKeys, is_freeable, key_answer, least_free};
 
 use erim_defs::linux::{EINVAL, ENOSPC, KEYS};
 use erim_defs::{Keys, Trust};
@@ -59,7 +59,7 @@ fn with_key_rights(pkru: u32, key: u8, bits: u8) -> u32
 /// pkey_alloc(2): takes the least free key, and gives the caller's PKRU its rights.
 pub fn pkey_alloc(keys: &mut Keys, pkru: &mut u32, flags: u64, rights: u64) -> Result<u64, u16>
     ensures answer { (s : State) (t : Thread) → HasKeys s t keys.old pkru.old
-        → pkey_alloc_result s t flags rights ≡ keyed s t keys.new pkru.new result }
+        → pkey_alloc_result s t flags rights ≡ key_answer s t keys.new pkru.new result }
     ensures keys { OnErr result (keys.new ≡ keys.old) }
     ensures pkru { OnErr result (pkru.new ≡ pkru.old) }
     ensures error { IfErr result (λ error. 0 < error) }
@@ -92,7 +92,7 @@ fn is_freeable(trust: &Trust, keys: &Keys, key: u64) -> bool
 pub fn pkey_free(keys: &mut Keys, trust: &Trust, key: u64) -> Result<u64, u16>
     ensures answer { (s : State) (t : Thread) → HasKeys s t keys.old t.pkru
         → trust_of s ≡ trust.now
-        → pkey_free_result s t key ≡ keyed s t keys.new t.pkru result }
+        → pkey_free_result s t key ≡ key_answer s t keys.new t.pkru result }
     ensures keys { OnErr result (keys.new ≡ keys.old) }
     ensures error { IfErr result (λ error. 0 < error) }
 {

@@ -2,17 +2,17 @@
 
 ghost use Rattle.std.specs.Prelude.{◌≡◌, ◌+◌, ◌<◌, ◌≤◌, ◌^◌, OnErr, IfErr, None};
 ghost use Rattle.erim_defs.specs.declared.machine.Thread.{Thread};
-ghost use Rattle.erim_defs.specs.Machine.Count.{mapped};
+ghost use Rattle.erim_defs.specs.Machine.Count.{mapped_pages};
 ghost use Rattle.erim_defs.specs.Machine.MapCalls.{mapped_in, mmap_anywhere, mmap_at, mmap_result};
 ghost use Rattle.erim_defs.specs.Machine.MapCalls.{new_rights, range_of};
 ghost use Rattle.erim_defs.specs.Machine.State.{State};
-ghost use Rattle.map_calls.specs.Answers.{Sees, SayTheSame, answered};
-ghost use Rattle.map_calls.specs.Ranges.{IsLowestFree, IsUnmapped, pages_of, rights_within};
+ghost use Rattle.map_calls.specs.Answers.{Sees, SayTheSame, map_answer};
+ghost use Rattle.map_calls.specs.Ranges.{IsLowestFree, IsUnmapped, page_range, rights_within};
 ghost use Rattle.map_calls.specs.Ranges.{zeros_within};
-ghost use Rattle.page_store.specs.Answers.{rights_in};
+ghost use Rattle.erim_defs.specs.Machine.Access.{rights_in};
 
 use crate::guards::{has_pin, is_protected};
-use crate::range::PageSpan;
+use crate::range::UserRange;
 use crate::unmapping::unmap_range;
 use crate::walk::next_in;
 use erim_defs::linux::{
@@ -23,8 +23,8 @@ use erim_defs::{Rights, Thread, Trust};
 use page_store::{Memory, Pages};
 
 /// How many pages of a range are mapped.
-fn mapped_in<P: Pages>(pages: &P, range: &PageSpan) -> u64
-    ensures count { result ≡ mapped_in (rights_in (P.seen pages.now)) (pages_of range.now) }
+fn mapped_in<P: Pages>(pages: &P, range: &UserRange) -> u64
+    ensures count { result ≡ mapped_in (rights_in (P.seen pages.now)) (page_range range.now) }
     ensures low { result ≤ 2 ^ 35 }
 {
     let mut count = 0;
@@ -37,10 +37,10 @@ fn mapped_in<P: Pages>(pages: &P, range: &PageSpan) -> u64
 }
 
 /// Maps the pages of a range, of which none is mapped.
-fn map_range<P: Pages>(pages: &mut P, range: &PageSpan, asked: u8)
+fn map_range<P: Pages>(pages: &mut P, range: &UserRange, asked: u8)
     requires asked { asked < 8 }
-    requires unmapped { IsUnmapped (rights_in (P.seen pages.old)) (pages_of range.now) }
-    requires free { mapped (rights_in (P.seen pages.old)) + range.now.count ≤ P.frames pages.old }
+    requires unmapped { IsUnmapped (rights_in (P.seen pages.old)) (page_range range.now) }
+    requires free { mapped_pages (rights_in (P.seen pages.old)) + range.now.count ≤ P.frames pages.old }
     ensures rights { rights_in (P.seen pages.new) ≡ rights_within (rights_in (P.seen pages.old))
         range.now.first (range.now.first + range.now.count) (λ _. new_rights asked) }
     ensures bytes { P.bytes pages.new ≡ zeros_within (P.bytes pages.old) range.now.first
@@ -48,12 +48,12 @@ fn map_range<P: Pages>(pages: &mut P, range: &PageSpan, asked: u8)
     ensures frames { P.frames pages.new ≡ P.frames pages.old }
 {
     for page in range.first..range.end() {
-        pages.map_zero(page, Rights::unpublished(asked, PLAIN_KEY));
+        pages.map_zero(page, Rights::unpublished_rights(asked, PLAIN_KEY));
     }
 }
 
 /// The lowest free pages, so many. `Err` is ENOMEM, where there are none.
-fn lowest_free<P: Pages>(pages: &P, count: u64) -> Result<PageSpan, u16>
+fn lowest_free<P: Pages>(pages: &P, count: u64) -> Result<UserRange, u16>
     requires some { 0 < count }
     requires few { count ≤ 2 ^ 52 }
     ensures { IsLowestFree (rights_in (P.seen pages.now)) count result }
@@ -65,7 +65,7 @@ fn lowest_free<P: Pages>(pages: &P, count: u64) -> Result<PageSpan, u16>
     if first + count > USER_END_PAGE {
         return Err(ENOMEM);
     }
-    Ok(PageSpan { first, count })
+    Ok(UserRange { first, count })
 }
 
 /// Maps a range of pages anew, at an address that is given.
@@ -81,7 +81,7 @@ fn map_at<P: Pages>(
     requires { asked < 8 }
     ensures answer { (s : State) (t : Thread)
         → Sees P.Memory trust.now pages.old threads.now s → t.pkru ≡ pkru
-        → mmap_at s t addr (range_of addr len) asked ≡ answered P.Memory s t pages.new result }
+        → mmap_at s t addr (range_of addr len) asked ≡ map_answer P.Memory s t pages.new result }
     ensures kept { OnErr result (SayTheSame P.Memory pages.old pages.new) }
     ensures error { IfErr result (λ error. 0 < error) }
     ensures frames { P.frames pages.new ≡ P.frames pages.old }
@@ -89,7 +89,7 @@ fn map_at<P: Pages>(
     if addr < LOWEST_FIXED {
         return Err(EINVAL);
     }
-    let range = PageSpan::covering(addr, len)?;
+    let range = UserRange::covering(addr, len)?;
     if is_protected(pages, trust, pkru, &range) {
         return Err(EPERM);
     }
@@ -106,14 +106,14 @@ fn map_at<P: Pages>(
     Ok(addr)
 }
 
-/// Maps so many pages where the lowest are free.
+/// Maps a given number of pages where the lowest are free.
 fn map_anywhere<P: Pages>(pages: &mut P, count: u64, asked: u8) -> Result<u64, u16>
     requires asked { asked < 8 }
     requires some { 0 < count }
     requires few { count ≤ 2 ^ 52 }
     ensures answer { (s : State) (t : Thread) → s.rights ≡ rights_in (P.seen pages.old)
         → s.bytes ≡ P.bytes pages.old → s.setup.frames ≡ P.frames pages.old
-        → mmap_anywhere s t count asked ≡ answered P.Memory s t pages.new result }
+        → mmap_anywhere s t count asked ≡ map_answer P.Memory s t pages.new result }
     ensures kept { OnErr result (SayTheSame P.Memory pages.old pages.new) }
     ensures error { IfErr result (λ error. 0 < error) }
     ensures frames { P.frames pages.new ≡ P.frames pages.old }
@@ -140,7 +140,7 @@ pub fn mmap<P: Pages>(
 ) -> Result<u64, u16>
     ensures answer { (s : State) (t : Thread)
         → Sees P.Memory trust.now pages.old threads.now s → t.pkru ≡ pkru
-        → mmap_result s t addr len prot flags ≡ answered P.Memory s t pages.new result }
+        → mmap_result s t addr len prot flags ≡ map_answer P.Memory s t pages.new result }
     ensures kept { OnErr result (SayTheSame P.Memory pages.old pages.new) }
     ensures error { IfErr result (λ error. 0 < error) }
     ensures frames { P.frames pages.new ≡ P.frames pages.old }

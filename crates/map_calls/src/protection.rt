@@ -8,15 +8,16 @@ ghost use Rattle.erim_defs.specs.Machine.MapCalls.{any_page, is_foreign, mprotec
 ghost use Rattle.erim_defs.specs.Machine.MapCalls.{pkey_mprotect_result, range_of};
 ghost use Rattle.erim_defs.specs.Machine.Pages.{asks_exec, with_value_at};
 ghost use Rattle.erim_defs.specs.Machine.State.{State};
-ghost use Rattle.map_calls.specs.Answers.{Sees, SayTheSame, answered};
-ghost use Rattle.map_calls.specs.Guards.{asks_trusted, pins};
+ghost use Rattle.map_calls.specs.Answers.{Sees, SayTheSame, map_answer};
+ghost use Rattle.map_calls.specs.Guards.{pins};
+ghost use Rattle.erim_defs.specs.Machine.MapCalls.{is_denied_key};
 ghost use Rattle.map_calls.specs.Keys.{SeesKeys};
-ghost use Rattle.map_calls.specs.Ranges.{anew, pages_of, rights_within};
-ghost use Rattle.page_store.specs.Answers.{rights_in};
+ghost use Rattle.map_calls.specs.Ranges.{anew, page_range, rights_within};
+ghost use Rattle.erim_defs.specs.Machine.Access.{rights_in};
 
 use crate::guards::{has_pin, is_protected};
 use crate::named_key::named_key;
-use crate::range::PageSpan;
+use crate::range::UserRange;
 use crate::rights::asked_anew;
 use crate::walk::next_in;
 use erim_defs::linux::{EAGAIN, EINVAL, ENOMEM, EPERM, PROT_EXEC};
@@ -24,9 +25,9 @@ use erim_defs::{Keys, Thread, Trust};
 use page_store::{Memory, Pages};
 
 /// Does a caller ask for a domain that isn't open to it?
-fn asks_trusted(trust: &Trust, pkru: u32, key: Option<u8>) -> bool
+fn is_denied_key(trust: &Trust, pkru: u32, key: Option<u8>) -> bool
     requires { IfSome key (λ k. k < 16) }
-    ensures { result ≡ asks_trusted trust.now pkru key }
+    ensures { result ≡ is_denied_key trust.now pkru key }
 {
     match key {
         Some(key) => trust.is_denied(pkru, key),
@@ -35,8 +36,8 @@ fn asks_trusted(trust: &Trust, pkru: u32, key: Option<u8>) -> bool
 }
 
 /// Is a page of the range not mapped? It looks no further than the first that isn't.
-fn has_unmapped<P: Pages>(pages: &P, range: &PageSpan) -> bool
-    ensures { result ≡ any_page (pages_of range.now)
+fn has_unmapped<P: Pages>(pages: &P, range: &UserRange) -> bool
+    ensures { result ≡ any_page (page_range range.now)
         (λ q. is_none (rights_in (P.seen pages.now) q)) }
 {
     for page in range.first..range.end() {
@@ -48,8 +49,8 @@ fn has_unmapped<P: Pages>(pages: &P, range: &PageSpan) -> bool
 }
 
 /// Would a pinned page of the range lose PROT_EXEC?
-fn loses_pin(threads: &[Thread], range: &PageSpan, asked: u8) -> bool
-    ensures { result ≡ (not (asks_exec asked) && list_any (pins (pages_of range.now)) threads.now) }
+fn loses_pin(threads: &[Thread], range: &UserRange, asked: u8) -> bool
+    ensures { result ≡ (not (asks_exec asked) && list_any (pins (page_range range.now)) threads.now) }
 {
     asked / PROT_EXEC % 2 == 0 && has_pin(threads, range)
 }
@@ -70,7 +71,7 @@ fn ask_page<P: Pages>(pages: &mut P, page: u64, asked: u8, key: Option<u8>)
 }
 
 /// Asks the mapped pages of a range anew.
-fn ask_range<P: Pages>(pages: &mut P, range: &PageSpan, asked: u8, key: Option<u8>)
+fn ask_range<P: Pages>(pages: &mut P, range: &UserRange, asked: u8, key: Option<u8>)
     requires asked { asked < 8 }
     requires key { IfSome key (λ k. k < 16) }
     ensures rights { rights_in (P.seen pages.new) ≡ rights_within (rights_in (P.seen pages.old))
@@ -101,16 +102,16 @@ fn protect<P: Pages>(
     ensures answer { (s : State) (t : Thread)
         → Sees P.Memory trust.now pages.old threads.now s → t.pkru ≡ pkru
         → is_foreign s key ≡ false
-        → protect s t addr (range_of addr len) asked key ≡ answered P.Memory s t pages.new result }
+        → protect s t addr (range_of addr len) asked key ≡ map_answer P.Memory s t pages.new result }
     ensures kept { OnErr result (SayTheSame P.Memory pages.old pages.new) }
     ensures error { IfErr result (λ error. 0 < error) }
     ensures frames { P.frames pages.new ≡ P.frames pages.old }
 {
-    let range = PageSpan::covering(addr, len)?;
+    let range = UserRange::covering(addr, len)?;
     if is_protected(pages, trust, pkru, &range) {
         return Err(EPERM);
     }
-    if asks_trusted(trust, pkru, key) {
+    if is_denied_key(trust, pkru, key) {
         return Err(EPERM);
     }
     if has_unmapped(pages, &range) {
@@ -135,7 +136,7 @@ pub fn mprotect<P: Pages>(
 ) -> Result<u64, u16>
     ensures answer { (s : State) (t : Thread)
         → Sees P.Memory trust.now pages.old threads.now s → t.pkru ≡ pkru
-        → mprotect_result s t addr len prot ≡ answered P.Memory s t pages.new result }
+        → mprotect_result s t addr len prot ≡ map_answer P.Memory s t pages.new result }
     ensures kept { OnErr result (SayTheSame P.Memory pages.old pages.new) }
     ensures error { IfErr result (λ error. 0 < error) }
     ensures frames { P.frames pages.new ≡ P.frames pages.old }
@@ -161,7 +162,7 @@ pub fn pkey_mprotect<P: Pages>(
 ) -> Result<u64, u16>
     ensures answer { (s : State) (t : Thread)
         → Sees P.Memory trust.now pages.old threads.now s → SeesKeys keys.now s → t.pkru ≡ pkru
-        → pkey_mprotect_result s t addr len prot key ≡ answered P.Memory s t pages.new result }
+        → pkey_mprotect_result s t addr len prot key ≡ map_answer P.Memory s t pages.new result }
     ensures kept { OnErr result (SayTheSame P.Memory pages.old pages.new) }
     ensures error { IfErr result (λ error. 0 < error) }
     ensures frames { P.frames pages.new ≡ P.frames pages.old }

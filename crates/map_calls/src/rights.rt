@@ -13,9 +13,9 @@ pub(crate) fn asked_anew(old: &Rights, asked: u8, key: u8) -> Rights
     ensures rights { result ≡ asked_anew asked key old.now }
     ensures sound { IsSound result }
 {
-    let new = Rights::unpublished(asked, key);
+    let new = Rights::unpublished_rights(asked, key);
     if old.exec && new.asks_exec() {
-        new.published()
+        new.published_rights()
     } else {
         new
     }

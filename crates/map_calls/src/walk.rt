@@ -1,7 +1,7 @@
 //! Walks over the mapped pages of a range.
 
 ghost use Rattle.map_calls.specs.Ranges.{IsNextIn};
-ghost use Rattle.page_store.specs.Answers.{rights_in};
+ghost use Rattle.erim_defs.specs.Machine.Access.{rights_in};
 
 use page_store::{Memory, Pages};
 

@@ -9,7 +9,8 @@ use Rattle.erim_defs.specs.Rewriting.Rewriting as definitions
 use Rattle.overlap_rewrite.specs.Answers.{RewriteFaultIs, RewrittenIs, image_fault}
 use Rattle.overlap_rewrite.specs.declared.rewriting.Rewritten.{Rewritten}
 use Rattle.overlap_rewrite.specs.declared.rewriting.RewriteFault.{RewriteFault}
-use Rattle.erim_defs.specs.Rewriting.Rewriting.{NotImage, image_runs, on_fault, on_runs, rewriting}
+use Rattle.erim_defs.specs.Rewriting.Rewriting.{NotImage, image_regions, on_fault, on_regions}
+use Rattle.erim_defs.specs.Rewriting.Rewriting.{rewriting}
 
 not_read : (answer : Result definitions.Rewritten definitions.Fault) (fault : ImageFault)
     → answer ≡ Err (NotImage fault) → RewriteFaultIs answer (image_fault fault)
@@ -34,11 +35,11 @@ refused bytes fault read is faulty accepted = by (first_fault bytes) refl faulty
         let same : fault ≡ f = cc in
         not_read (on_fault bytes (first_fault bytes)) fault (rw (e, same) refl)
 
--- of an accepted image its runs tell
-pub accepted_runs : (bytes : List ℕ) → IsAccepted bytes
-    → rewriting bytes ≡ on_runs bytes (image_runs bytes)
+-- of an accepted image its regions say
+pub accepted_regions : (bytes : List ℕ) → IsAccepted bytes
+    → rewriting bytes ≡ on_regions bytes (image_regions bytes)
 unfolding rewriting
-accepted_runs bytes h = ap (on_fault bytes) h
+accepted_regions bytes h = ap (on_fault bytes) h
 
 -- so what is answered is clean
 pub clean_answer : (bytes : List ℕ) (result : Result Rewritten RewriteFault)

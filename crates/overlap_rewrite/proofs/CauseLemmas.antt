@@ -6,11 +6,12 @@ use Rattle.erim_defs.specs.declared.limits.TheConstants.{MOST_HEADERS}
 use Rattle.erim_defs.specs.Inspection.Image.{header_count}
 use Rattle.erim_defs.specs.Rewriting.Layout.{Copy, segment_bytes}
 use Rattle.erim_defs.specs.Rewriting.NewFile.{header_in_note, new_base, new_file}
-use Rattle.erim_defs.specs.Rewriting.Rewriting.{is_bad, is_hopeless, most_copied}
+use Rattle.erim_defs.specs.Rewriting.Rewriting.{is_bad, is_hopeless}
+use Rattle.erim_defs.specs.declared.limits.TheConstants.{MOST_COPIED}
 
--- there is too much to add, or no place for what tells of it
+-- there is too much to add, or no place for what says of it
 abbrev pub is_full : List ℕ → List ℕ → Bool
-is_full bytes segment = nat_lt most_copied (length segment)
+is_full bytes segment = nat_lt MOST_COPIED (length segment)
     || (header_in_note bytes || header_count bytes == MOST_HEADERS)
 
 or_last : (w x y z : Bool) → (w || (x || (y || z))) ≡ ((w || (x || y)) || z)
@@ -23,7 +24,7 @@ hopeless_parts : (bytes : List ℕ) (copies : List Copy)
     ≡ (is_full bytes (segment_bytes copies) || is_bad (new_file bytes (new_base bytes) copies))
 unfolding is_hopeless
 hopeless_parts bytes copies =
-    or_last (nat_lt most_copied (length (segment_bytes copies))) (header_in_note bytes)
+    or_last (nat_lt MOST_COPIED (length (segment_bytes copies))) (header_in_note bytes)
     (header_count bytes == MOST_HEADERS) (is_bad (new_file bytes (new_base bytes) copies))
 
 pub when_full : (bytes segment : List ℕ) (copies : List Copy) → segment ≡ segment_bytes copies

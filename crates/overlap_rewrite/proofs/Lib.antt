@@ -1,4 +1,4 @@
 pub mod FileLemmas
 pub mod CauseLemmas
-pub mod RunLemmas
+pub mod RegionLemmas
 pub mod AnswerLemmas

@@ -5,8 +5,8 @@ use Rattle.erim_defs.specs.declared.fault.ImageFault.TheVariants as faults
 use Rattle.erim_defs.specs.Rewriting.Rewriting.{Fault, NotImage}
 use Rattle.erim_defs.specs.Rewriting.Rewriting as definitions
 use Rattle.rewrite_sites.specs.Shown.{sites_of}
-use Rattle.rewrite_sites.specs.declared.runs.SiteFault.{SiteFault}
-use Rattle.rewrite_sites.specs.declared.runs.SiteFault.TheVariants as sites
+use Rattle.rewrite_sites.specs.declared.regions.SiteFault.{SiteFault}
+use Rattle.rewrite_sites.specs.declared.regions.SiteFault.TheVariants as sites
 use Rattle.copy_layout.specs.declared.layout.LayoutFault.{LayoutFault}
 use Rattle.copy_layout.specs.declared.layout.LayoutFault.TheVariants as layouts
 use Rattle.overlap_rewrite.specs.declared.rewriting.Rewritten.{Rewritten}
@@ -14,13 +14,13 @@ use Rattle.overlap_rewrite.specs.declared.rewriting.RewriteFault.{RewriteFault}
 use Rattle.overlap_rewrite.specs.declared.rewriting.RewriteFault.TheVariants.{Image, Cannot}
 use Rattle.overlap_rewrite.specs.declared.rewriting.RewriteFault.TheVariants.{NoRoom, Memory}
 
--- it has the bytes, and a site for each run
+-- it has the bytes, and a site for each region
 pub record RewrittenIs (answer : Result definitions.Rewritten Fault)
     (new : Rewritten) : Type 0 where
   pub is : definitions.Rewritten
   pub answer_is : answer ≡ Ok is
   pub bytes : new.bytes.items ≡ is.bytes
-  pub sites : new.sites.list.items ≡ sites_of is.runs
+  pub sites : new.sites.list.items ≡ sites_of is.regions
 
 -- it is the same fault, or memory ran out
 abbrev pub RewriteFaultIs : Result definitions.Rewritten Fault → RewriteFault → Type 0

@@ -8,22 +8,18 @@ ghost use Rattle.erim_defs.specs.Rewriting.Layout.{segment_bytes};
 ghost use Rattle.erim_defs.specs.Rewriting.NewFile.{header_in_note, in_note, meets, meets_as};
 ghost use Rattle.erim_defs.specs.Rewriting.NewFile.{new_base, new_file};
 ghost use Rattle.erim_defs.specs.Rewriting.Rewriting.{image_first_unsafe, is_bad, is_hopeless};
-ghost use Rattle.erim_defs.specs.Rewriting.Rewriting.{most_copied};
 ghost use Rattle.erim_defs.specs.declared.elf.TheConstants.{PT_NOTE};
-ghost use Rattle.erim_defs.specs.declared.limits.TheConstants.{MOST_HEADERS};
-ghost use Rattle.rewriting_laws.specs.PlaceLaws.{HasPlace};
+ghost use Rattle.erim_defs.specs.declared.limits.TheConstants.{MOST_COPIED, MOST_HEADERS};
+ghost use Rattle.erim_defs.specs.Rewriting.NewFile.{HasPlace};
 
-use crate::file::{header_count, new_file};
+use crate::file::new_file;
 use copy_layout::{Layout, in_note, new_base};
 use elf_image::{Image, ImageFault, read_image};
 use erim_defs::NoMemory;
 use erim_defs::elf::{E_PHNUM, E_PHOFF};
-use erim_defs::limits::MOST_HEADERS;
+use erim_defs::limits::{MOST_COPIED, MOST_HEADERS};
 use image_code::ImageCode;
 use std::alloc::Global;
-
-/// How many bytes the new segment may have.
-const MOST_COPIED: usize = 65536;
 
 /// Does a note have a byte of what the file says of the table of program headers?
 #[tactic(auto, unfolding(erim_defs::specs::Rewriting::NewFile::header_in_note))]
@@ -39,15 +35,15 @@ fn header_in_note(alloc: Global, image: &Image) -> Result<bool, NoMemory>
     )
 }
 
-/// Is there too much to add, or no place for what tells of it?
+/// Is there too much to add, or no place for what says of it?
 fn is_full(alloc: Global, image: &Image, segment: &[u8]) -> Result<bool, NoMemory>
-    ensures { IfOk result (λ full. full ≡ (nat_lt most_copied (length segment.now)
+    ensures { IfOk result (λ full. full ≡ (nat_lt MOST_COPIED (length segment.now)
         || (header_in_note image.now || header_count image.now == MOST_HEADERS))) }
 {
     Ok(
-        segment.len() > MOST_COPIED
+        segment.len() as u64 > MOST_COPIED
             || header_in_note(alloc, image)?
-            || u32::from(header_count(image)) == MOST_HEADERS,
+            || u32::from(image.header_count()) == MOST_HEADERS,
     )
 }
 
@@ -77,7 +73,7 @@ pub fn file_with(
     image: &Image,
     layout: &Layout<'_>,
 ) -> Result<Option<Vec<u8>>, NoMemory>
-    requires places { All (λ k. HasPlace image.now k.run) layout.now.copies.items }
+    requires places { All (λ k. HasPlace image.now k.region) layout.now.copies.items }
     requires bytes { layout.now.segment.items ≡ segment_bytes layout.now.copies.items }
     ensures { IfOk result (λ found. MatchOption found
         (is_hopeless image.now layout.now.copies.items ≡ true)

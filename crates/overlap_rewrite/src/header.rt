@@ -6,7 +6,7 @@ ghost use Rattle.erim_defs.specs.declared.elf.TheConstants.{PF_R, PF_X, PT_LOAD}
 
 use erim_defs::elf::{PF_R, PF_X, PT_LOAD};
 use erim_defs::page::PAGE_SIZE;
-use image_gen::{Header, push_program_header};
+use image_gen::{NewHeader, push_program_header};
 use std::alloc::AllocError;
 
 /// Appends the header of a segment of code: where it stands in the file and in memory, and its
@@ -28,7 +28,7 @@ pub fn push_header(
     })) }
 {
     let size = segment.len() as u64;
-    let header = Header {
+    let header = NewHeader {
         kind: PT_LOAD,
         flags: PF_R + PF_X,
         place,

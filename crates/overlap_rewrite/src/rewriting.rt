@@ -4,21 +4,24 @@ ghost use Rattle.std.specs.Prelude.{◌≡◌, [], All, IfOk, List, MatchResult,
 ghost use Rattle.erim_defs.specs.Inspection.Image.{IsAccepted};
 ghost use Rattle.erim_defs.specs.Inspection.Unsafe.{image_list};
 ghost use Rattle.erim_defs.specs.Rewriting.Layout.{segment_bytes};
-ghost use Rattle.erim_defs.specs.Rewriting.Rewriting.{finished, first_at, first_of_all, on_runs};
-ghost use Rattle.erim_defs.specs.Rewriting.Rewriting.{image_runs, rewriting};
+ghost use Rattle.erim_defs.specs.Rewriting.Rewriting.{rewriting_of, first_at, first_of_all};
+ghost use Rattle.erim_defs.specs.Rewriting.Rewriting.{on_regions};
+ghost use Rattle.erim_defs.specs.Rewriting.Rewriting.{image_regions, rewriting};
 ghost use Rattle.erim_defs.specs.Rewriting.Rewriting as definitions;
 ghost use Rattle.erim_defs.specs.Rewriting.Sites as sites;
-ghost use Rattle.rewriting_laws.specs.PlaceLaws.{HasPlace};
+ghost use Rattle.erim_defs.specs.Rewriting.NewFile.{HasPlace};
 ghost use Rattle.overlap_rewrite.specs.Answers.{RewriteFaultIs, RewrittenIs, image_fault};
 ghost use Rattle.overlap_rewrite.specs.Answers.{layout_fault, site_fault};
 ghost use Rattle.overlap_rewrite.specs.declared.rewriting.RewriteFault.TheVariants.{Memory};
 
 use crate::causes::file_with;
-use copy_layout::{Layout, LayoutFault, lay_copies};
+use copy_layout::{Layout, LayoutFault, first_at, lay_copies};
 use elf_image::{Image, ImageFault, read_image};
-use erim_defs::{Found, NoMemory, Why};
-use rewrite_sites::{Run, SiteFault, Sites, functions_of, image_program, image_runs, sites_of};
-use rewriting_laws::{answered, places};
+use erim_defs::{NoMemory, Why};
+use rewrite_sites::{
+    Region, SiteFault, Sites, functions_of, image_program, image_regions, sites_of,
+};
+use rewriting_laws::{regions_lie_in_file, rewriting_is_clean};
 use std::alloc::{AllocError, Global};
 
 /// A rewritten image, and the sites at which it was rewritten.
@@ -35,7 +38,7 @@ pub enum RewriteFault {
     Image(ImageFault),
     /// The unsafe sequence at an address can't be rewritten.
     Cannot { at: u64, why: Why },
-    /// There is no room for the copy of a run; the address of its first unsafe sequence.
+    /// There is no room for the copy of a region; the address of its first unsafe sequence.
     NoRoom { at: u64 },
     /// Memory ran out.
     Memory,
@@ -90,89 +93,79 @@ impl From<LayoutFault> for RewriteFault {
     }
 }
 
-/// The address of the first of a run's unsafe sequences.
-fn first_at(elements: &[Found]) -> u64
-    ensures { result ≡ first_at elements.now }
+/// The address of the first unsafe sequence of all regions.
+fn first_of_all(regions: &[Region<'_>]) -> u64
+    ensures { result ≡ first_of_all regions.now }
 {
-    match elements.first() {
-        Some(found) => found.at,
+    match regions.first() {
+        Some(region) => first_at(region.elements()),
         None => 0,
     }
 }
 
-/// The address of the first unsafe sequence of all runs.
-fn first_of_all(runs: &[Run<'_>]) -> u64
-    ensures { result ≡ first_of_all runs.now }
-{
-    match runs.first() {
-        Some(run) => first_at(run.elements()),
-        None => 0,
-    }
-}
-
-/// Rewrites an image by a layout of the copies of its runs.
+/// Rewrites an image by a layout of the copies of its regions.
 fn rewrite_by(
     alloc: Global,
     image: &Image,
-    runs: &[Run<'_>],
+    regions: &[Region<'_>],
     layout: &Layout<'_>,
 ) -> Result<Rewritten, RewriteFault>
-    requires places { All (λ k. HasPlace image.now k.run) layout.now.copies.items }
+    requires places { All (λ k. HasPlace image.now k.region) layout.now.copies.items }
     requires bytes { layout.now.segment.items ≡ segment_bytes layout.now.copies.items }
-    ensures { let answer = finished image.now runs.now (Ok layout.now.copies.items) in
+    ensures { let answer = rewriting_of image.now regions.now (Ok layout.now.copies.items) in
         MatchResult result (RewrittenIs answer) (RewriteFaultIs answer) }
 {
-    let sites = sites_of(alloc, runs)?;
+    let sites = sites_of(alloc, regions)?;
     match file_with(alloc, image, layout)? {
         Some(bytes) => Ok(Rewritten { bytes, sites }),
         None => Err(RewriteFault::NoRoom {
-            at: first_of_all(runs),
+            at: first_of_all(regions),
         }),
     }
 }
 
-/// Rewrites an image at its runs. Where there are none its bytes stay as they are.
-fn rewrite_runs<'a>(
+/// Rewrites an image at its regions. Where there are none its bytes stay as they are.
+fn rewrite_regions<'a>(
     alloc: Global,
     image: &Image,
-    runs: &'a [Run<'a>],
+    regions: &'a [Region<'a>],
 ) -> Result<Rewritten, RewriteFault>
-    requires { All (HasPlace image.now) runs.now }
-    ensures { let answer = on_runs image.now (Ok runs.now) in
+    requires { All (HasPlace image.now) regions.now }
+    ensures { let answer = on_regions image.now (Ok regions.now) in
         MatchResult result (RewrittenIs answer) (RewriteFaultIs answer) }
 {
-    if runs.is_empty() {
+    if regions.is_empty() {
         let bytes = Vec::from_slice(alloc, image.bytes())?;
-        let sites = sites_of(alloc, runs)?;
+        let sites = sites_of(alloc, regions)?;
         return Ok(Rewritten { bytes, sites });
     }
-    let layout = lay_copies(alloc, image, runs)?;
-    rewrite_by(alloc, image, runs, &layout)
+    let layout = lay_copies(alloc, image, regions)?;
+    rewrite_by(alloc, image, regions, &layout)
 }
 
 /// What is known of an image, since it was accepted.
-fn known(image: &Image)
-    ensures runs { rewriting image.now ≡ on_runs image.now (image_runs image.now) }
-    ensures places { (runs : List sites.Run) → image_runs image.now ≡ Ok runs
-        → All (HasPlace image.now) runs }
+fn rewriting_facts(image: &Image)
+    ensures regions { rewriting image.now ≡ on_regions image.now (image_regions image.now) }
+    ensures places { (regions : List sites.Region) → image_regions image.now ≡ Ok regions
+        → All (HasPlace image.now) regions }
     ensures clean { (new : definitions.Rewritten) → rewriting image.now ≡ Ok new
         → IsAccepted new.bytes × (image_list new.bytes ≡ []) }
 {
     let _bytes = image.bytes();
-    answered();
-    places();
+    rewriting_is_clean();
+    regions_lie_in_file();
 }
 
-/// Rewrites an image at the runs of its unsafe sequences.
+/// Rewrites an image at the regions of its unsafe sequences.
 fn rewrite_accepted(alloc: Global, image: &Image) -> Result<Rewritten, RewriteFault>
-    ensures { let answer = on_runs image.now (image_runs image.now) in
+    ensures { let answer = on_regions image.now (image_regions image.now) in
         MatchResult result (RewrittenIs answer) (RewriteFaultIs answer) }
 {
-    known(image);
+    rewriting_facts(image);
     let functions = functions_of(alloc, image)?;
     let program = image_program(alloc, image, functions.as_slice())?;
-    let runs = image_runs(alloc, image, &program)?;
-    rewrite_runs(alloc, image, runs.as_slice())
+    let regions = image_regions(alloc, image, &program)?;
+    rewrite_regions(alloc, image, regions.as_slice())
 }
 
 /// Rewrites an image.
@@ -182,7 +175,7 @@ pub fn rewrite_image(alloc: Global, image: &Image) -> Result<Rewritten, RewriteF
     ensures clean { IfOk result (λ new. IsAccepted new.bytes.items
         × (image_list new.bytes.items ≡ [])) }
 {
-    known(image);
+    rewriting_facts(image);
     rewrite_accepted(alloc, image)
 }
 

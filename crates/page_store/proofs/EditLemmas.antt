@@ -8,7 +8,7 @@ use Rattle.std.specs.List.{swap_remove}
 use Rattle.std.proofs.lemmas.Bool.{cases_Bool, eqb-false}
 use Rattle.std.proofs.Math.Path.{fun_ext}
 use Rattle.erim_defs.specs.Machine.Pages.{with_value_at, with_zero_page}
-use Rattle.erim_defs.specs.Machine.Count.{mapped}
+use Rattle.erim_defs.specs.Machine.Count.{mapped_pages}
 use Rattle.erim_defs.proofs.CountLemmas.{mapped_put, mapped_none}
 use Rattle.page_store.specs.declared.page_list.Page.{Page}
 use Rattle.page_store.specs.Listed.{find_page, is_listed, is_fresh, list_rights, list_bytes}
@@ -24,15 +24,15 @@ list_rights-cons p ps = fun_ext (λ x. elim (cases_Bool (eqb p.number x)) [
   | inr t ↦ rw (t, ne_eqb x p.number (λ q. eqb-false _ _ t (sym q))) refl
 ])
 
-pub list_mapped : (ps : List Page) → is_listed ps ≡ true → mapped (list_rights ps) ≡ length ps
+pub list_mapped : (ps : List Page) → is_listed ps ≡ true → mapped_pages (list_rights ps) ≡ length ps
 list_mapped [] h = mapped_none
 list_mapped (p ∷ ps) h =
     let f : is_fresh p ps ≡ true = grind arith in
     let rest = list_mapped ps (grind arith) in
     let none : list_rights ps p.number ≡ None = ap rights_of (fresh-none p ps f) in
     let e = mapped_put (list_rights ps) p.number (Some p.rights) (fresh-low p ps f) in
-    let e2 : mapped (with_value_at (list_rights ps) p.number (Some p.rights)) + 0
-    ≡ mapped (list_rights ps) + 1 = rw none at e in
+    let e2 : mapped_pages (with_value_at (list_rights ps) p.number (Some p.rights)) + 0
+    ≡ mapped_pages (list_rights ps) + 1 = rw none at e in
     rw list_rights-cons (omega (arith, e2, rest))
 
 pub list_rights-push : (ps : List Page) (new : Page) → find_page ps new.number ≡ None

@@ -13,7 +13,8 @@ use Rattle.erim_defs.specs.declared.machine.Access.TheVariants.{Fault}
 use Rattle.erim_defs.specs.declared.machine.Cause.TheVariants.{Unmapped}
 use Rattle.erim_defs.specs.Machine.Pages.{is_published, RightsMap, ByteMap, with_value_at, word}
 use Rattle.erim_defs.specs.Machine.Pages.{with_number, published_code}
-use Rattle.erim_defs.specs.Machine.Access.{Seen, whole, stop, stop_or, stop_at, stop_by}
+use Rattle.erim_defs.specs.Machine.Access.{Seen, whole, stop, stop_at, stop_by}
+use Rattle.erim_defs.specs.Inspection.Code.{or_else}
 use Rattle.erim_defs.specs.declared.machine.Rights.{Rights}
 use Rattle.page_store.specs.Answers.{IsWidth, cons_ok, code_told, fetch_of, byte_at, HasBytes}
 use Rattle.page_store.specs.declared.page_list.Page.{Page}
@@ -87,7 +88,7 @@ list_bytes-put ps i new d a v h l e at n r =
 -- one byte of an access
 pub stop_more : (seen : Seen) (write : Bool) (pkru a n : ℕ) → 0 < n
     → stop seen write pkru a n
-    ≡ stop_or (stop_at seen write pkru a) (stop seen write pkru (a + 1) (n - 1))
+    ≡ or_else (stop_at seen write pkru a) (stop seen write pkru (a + 1) (n - 1))
 unfolding stop
 stop_more seen write pkru a zero l = absurd (omega arith)
 stop_more seen write pkru a (suc n) l = let e : suc n - 1 ≡ n = omega arith in
@@ -181,7 +182,7 @@ power_fits d n v x l m h k =
     let e : 2 ^ (8 * d) ≤ 2 ^ 56 = (let m : 8 * d ≤ 56 = omega arith in pow_mono m) in
     omega (arith, e)
 
-pub stop_or_none : (x y : Option Access) → stop_or x y ≡ None → (x ≡ None) × (y ≡ None)
+pub stop_or_none : (x y : Option Access) → or_else x y ≡ None → (x ≡ None) × (y ≡ None)
 stop_or_none None y h = (refl, h)
 stop_or_none (Some a) y h = absurd (cc)
 

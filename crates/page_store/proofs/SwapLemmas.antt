@@ -24,7 +24,7 @@ swap_remove_later p q ps i d =
     let f : length (q ∷ ps) - 1 ≡ length ps = omega arith in
     rw (e, f) refl
 
--- a list and the page behind it
+-- a list and the page after it
 pub record IsBehind (xs : List Page) (y : Page) : Type 0 where
   pub listed : is_listed xs ≡ true
   pub fresh : is_fresh y xs ≡ true

@@ -7,14 +7,6 @@ use Rattle.erim_defs.specs.declared.machine.Access.{Access}
 use Rattle.erim_defs.specs.Machine.Pages.{RightsMap, ByteMap, word, with_number}
 use Rattle.erim_defs.specs.Machine.Access.{Seen, stop}
 
-abbrev pub rights_told : Option (Option Rights) → Option Rights
-rights_told None = None
-rights_told (Some r) = r
-
--- the rights of each page that is held and mapped
-abbrev pub rights_in : Seen → RightsMap
-rights_in seen = λ q. rights_told (seen q)
-
 abbrev pub or_stop : {X : Type 0} → Option Access → X → Result X Access
 or_stop None x = Ok x
 or_stop (Some s) x = Err s

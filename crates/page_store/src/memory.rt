@@ -6,8 +6,9 @@ ghost use Rattle.erim_defs.specs.declared.machine.Rights.{Rights};
 ghost use Rattle.erim_defs.specs.Machine.Pages.{ByteMap, with_value_at, word, with_zero_page};
 ghost use Rattle.erim_defs.specs.Machine.Pages.{IsSound};
 ghost use Rattle.erim_defs.specs.Machine.Access.{Seen, stop, whole};
-ghost use Rattle.erim_defs.specs.Machine.Count.{mapped};
-ghost use Rattle.page_store.specs.Answers.{rights_in, or_stop, load_of, bytes_after_store};
+ghost use Rattle.erim_defs.specs.Machine.Count.{mapped_pages};
+ghost use Rattle.erim_defs.specs.Machine.Access.{rights_in};
+ghost use Rattle.page_store.specs.Answers.{or_stop, load_of, bytes_after_store};
 ghost use Rattle.page_store.specs.Answers.{fetch_of, Fetches, IsWidth, IsNextPage, HasBytes};
 ghost use Rattle.page_store.specs.Notes.{NoteMap, Notes, looked_access, looked_fetch};
 
@@ -108,7 +109,7 @@ pub trait Pages: Memory {
         requires unmapped { rights_in (Self.seen self.old) page ≡ None }
         requires low { page < 2 ^ 35 }
         requires sound { IsSound rights }
-        requires free { mapped (rights_in (Self.seen self.old)) < Self.frames self.old }
+        requires free { mapped_pages (rights_in (Self.seen self.old)) < Self.frames self.old }
         ensures seen { Self.seen self.new
             ≡ whole (with_value_at (rights_in (Self.seen self.old)) page (Some rights)) }
         ensures bytes { Self.bytes self.new ≡ with_zero_page (Self.bytes self.old) page }
@@ -124,7 +125,7 @@ pub trait Pages: Memory {
 
     /// How many more pages may be mapped.
     fn free_frames(&self) -> u32
-        ensures { result + mapped (rights_in (Self.seen self.now)) ≡ Self.frames self.now };
+        ensures { result + mapped_pages (rights_in (Self.seen self.now)) ≡ Self.frames self.now };
 
     /// The least mapped page whose number is at least `from`.
     fn next_page(&self, from: u64) -> Option<u64>

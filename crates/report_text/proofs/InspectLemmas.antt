@@ -1,4 +1,4 @@
--- How far the unsafe list of an image is told.
+-- How far the unsafe list of an image is said.
 use Rattle.std.proofs.Common.{◌≡◌, ℕ, ◌+◌, ◌≤◌, ◌^◌, ◌∙◌, ◌++◌, List, [], ◌∷◌, length, Some, None}
 use Rattle.std.proofs.Common.{refl, sym, arith}
 use Rattle.std.specs.List.{flat_map}
@@ -17,7 +17,7 @@ pub record Tells (os : List Found) (text : List ℕ) (n : ℕ) : Type 0 where
   pub lines : text ≡ flat_map unsafe_line os
   pub count : n ≡ length os
 
--- those below an address of a code were told
+-- those below an address of a code were said
 pub record TellsBelow (trust : TrustValue) (c : Code) (from : ℕ) (text : List ℕ) (count : ℕ) :
     Type 0 where
   pub tells : Tells (list_below from (unsafe_at trust c)) text count
@@ -33,7 +33,7 @@ tells_nothing trust c = record {
   user = omega arith;
 }
 
--- the next one was told
+-- the next one was said
 pub tells_next : (trust : TrustValue) (c : Code) (from : ℕ) (text : List ℕ) (count : ℕ) (o : Found)
     → TellsBelow trust c from text count → IsFirstUnsafe trust c from (2 ^ 47) (Some o)
     → TellsBelow trust c (o.at + 1) (text ++ unsafe_line o) (count + 1)
@@ -51,7 +51,7 @@ tells_next trust c from text count o so_far is =
       user = omega (arith, is.1);
     }
 
--- where none is left all were told
+-- where none is left all were said
 pub tells_all : (trust : TrustValue) (c : Code) (from : ℕ) (text : List ℕ) (count : ℕ)
     → TellsBelow trust c from text count → IsFirstUnsafe trust c from (2 ^ 47) None
     → Tells (unsafe_list trust c) text count

@@ -1,7 +1,7 @@
 //! The texts that are printed of images, processes and runs.
 //!
 //! `report` is the report of a process that entries led to, `soak_line` the line of a run of a made
-//! image and `gen_line` that of one that is saved; `inspection` and `inspect_text` tell the unsafe
+//! image and `gen_line` that of one that is saved; `inspection` and `inspect_text` say the unsafe
 //! list of an image. Each is exactly its text in `erim_defs`' `specs/Output`.
 #![tactic(auto)]
 

@@ -4,8 +4,9 @@ ghost use Rattle.std.specs.Prelude.{◌≡◌, ◌≤◌, ◌++◌, length, OnOk
 ghost use Rattle.std.specs.String.{string_bytes};
 ghost use Rattle.erim_defs.specs.Output.Report.{thread_text, thread_lines, worker_line};
 ghost use Rattle.erim_defs.specs.Output.Report.{worker_lines, steps_of_thread, steps_of_worker};
-ghost use Rattle.erim_defs.specs.Output.Report.{lines_behind, report};
+ghost use Rattle.erim_defs.specs.Output.Report.{lines_after_output, report};
 ghost use Rattle.erim_process.specs.ProcessValue.{state_of};
+ghost use Rattle.erim_defs.specs.declared.limits.TheConstants.{MOST_STEPS};
 
 use crate::ends::{end_text, escape_text};
 use crate::texts::pkru_text;
@@ -18,7 +19,7 @@ const WORKERS: u16 = 9;
 
 /// How many steps of a thread the entries stand for.
 fn steps_of_thread(entries: &[Entry], thread: u16) -> u64
-    requires { length entries.now ≤ 4194304 }
+    requires { length entries.now ≤ MOST_STEPS }
     ensures { result ≡ steps_of_thread entries.now thread }
 {
     entries
@@ -30,7 +31,7 @@ fn steps_of_thread(entries: &[Entry], thread: u16) -> u64
 
 /// How many steps of a worker the entries stand for.
 fn steps_of_worker(entries: &[Entry], worker: u16) -> u64
-    requires { length entries.now ≤ 4194304 }
+    requires { length entries.now ≤ MOST_STEPS }
     ensures { result ≡ steps_of_worker entries.now worker }
 {
     entries
@@ -48,7 +49,7 @@ fn push_thread(
     thread: u8,
     pkru: u32,
 ) -> Result<(), AllocError>
-    requires { length entries.now ≤ 4194304 }
+    requires { length entries.now ≤ MOST_STEPS }
     ensures { OnOk result (string_bytes text.new
         ≡ string_bytes text.old ++ thread_text entries.now thread pkru) }
 {
@@ -64,7 +65,7 @@ fn push_threads(
     process: &Process,
     entries: &[Entry],
 ) -> Result<(), AllocError>
-    requires { length entries.now ≤ 4194304 }
+    requires { length entries.now ≤ MOST_STEPS }
     ensures { OnOk result (string_bytes text.new
         ≡ string_bytes text.old
         ++ thread_lines entries.now (state_of process.now).threads
@@ -90,7 +91,7 @@ fn push_worker(text: &mut String, worker: u16, steps: u64) -> Result<(), AllocEr
 
 /// Appends the lines of all workers.
 fn push_workers(text: &mut String, entries: &[Entry]) -> Result<(), AllocError>
-    requires { length entries.now ≤ 4194304 }
+    requires { length entries.now ≤ MOST_STEPS }
     ensures { OnOk result (string_bytes text.new
         ≡ string_bytes text.old ++ worker_lines entries.now 9) }
 {
@@ -100,11 +101,15 @@ fn push_workers(text: &mut String, entries: &[Entry]) -> Result<(), AllocError>
     Ok(())
 }
 
-/// What stands behind the output.
-fn lines_behind(alloc: Global, process: &Process, entries: &[Entry]) -> Result<String, AllocError>
-    requires { length entries.now ≤ 4194304 }
+/// What stands after the output.
+fn lines_after_output(
+    alloc: Global,
+    process: &Process,
+    entries: &[Entry],
+) -> Result<String, AllocError>
+    requires { length entries.now ≤ MOST_STEPS }
     ensures { IfOk result (λ text. string_bytes text
-        ≡ lines_behind entries.now (state_of process.now)) }
+        ≡ lines_after_output entries.now (state_of process.now)) }
 {
     let steps = process.steps();
     let end = end_text(alloc, process.end())?;
@@ -119,7 +124,7 @@ fn lines_behind(alloc: Global, process: &Process, entries: &[Entry]) -> Result<S
 /// escape, and how many steps each thread and each worker made.
 #[tactic(auto, unfolding(erim_defs::specs::Output::Report::report))]
 pub fn report(alloc: Global, process: &Process, entries: &[Entry]) -> Result<Vec<u8>, NoMemory>
-    requires { length entries.now ≤ 4194304 }
+    requires { length entries.now ≤ MOST_STEPS }
     ensures { IfOk result (λ text. text.items ≡ report entries.now (state_of process.now)) }
 {
     let output = process.output();
@@ -127,6 +132,6 @@ pub fn report(alloc: Global, process: &Process, entries: &[Entry]) -> Result<Vec
     let mut text = format!(in alloc; "output {count}\n")?.into_bytes();
     text.extend_from_slice(output)?;
     text.extend_from_slice(b"\n")?;
-    text.extend_from_slice(lines_behind(alloc, process, entries)?.as_bytes())?;
+    text.extend_from_slice(lines_after_output(alloc, process, entries)?.as_bytes())?;
     Ok(text)
 }

@@ -1,8 +1,8 @@
-//! What is printed of a made image, and of a run of one.
+//! What is printed of a generated image, and of a run of one.
 
 ghost use Rattle.std.specs.Prelude.{◌≡◌, ◌++◌, OnOk, IfOk};
 ghost use Rattle.std.specs.String.{string_bytes};
-ghost use Rattle.erim_defs.specs.Output.MadeTexts.{byte_text, bytes_text, gen_line, soak_line};
+ghost use Rattle.erim_defs.specs.Output.GeneratedTexts.{byte_text, bytes_text, gen_line, soak_line};
 ghost use Rattle.erim_process.specs.ProcessValue.{state_of};
 
 use crate::ends::{end_text, escape_text};
@@ -28,8 +28,8 @@ fn push_bytes(text: &mut String, bytes: &[u8]) -> Result<(), AllocError>
     Ok(())
 }
 
-/// The line of an image of so many bytes that was made from a seed.
-#[tactic(auto, unfolding(erim_defs::specs::Output::MadeTexts::gen_line))]
+/// The line of an image of a given number of bytes that was generated from a seed.
+#[tactic(auto, unfolding(erim_defs::specs::Output::GeneratedTexts::gen_line))]
 pub fn gen_line(alloc: Global, seed: u64, count: u64) -> Result<Vec<u8>, NoMemory>
     ensures { IfOk result (λ line. line.items ≡ gen_line seed count) }
 {
@@ -40,7 +40,7 @@ pub fn gen_line(alloc: Global, seed: u64, count: u64) -> Result<Vec<u8>, NoMemor
 }
 
 /// The line of a run of the image of a seed.
-#[tactic(auto, unfolding(erim_defs::specs::Output::MadeTexts::soak_line))]
+#[tactic(auto, unfolding(erim_defs::specs::Output::GeneratedTexts::soak_line))]
 pub fn soak_line(alloc: Global, seed: u64, process: &Process) -> Result<Vec<u8>, NoMemory>
     ensures { IfOk result (λ line. line.items ≡ soak_line seed (state_of process.now)) }
 {

@@ -1,4 +1,4 @@
--- The runs of an image, from its program and its unsafe sequences.
+-- The regions of an image, from its program and its unsafe sequences.
 use Rattle.std.proofs.Common.{◌≡◌, ◌+◌, ◌<◌, ◌++◌, ◌∷◌, [], ℕ, List, None, map, refl, sym}
 use Rattle.std.proofs.Common.{get_or, length, take}
 use Rattle.std.proofs.lemmas.List.{length-take, map_more}
@@ -16,14 +16,14 @@ use Rattle.erim_defs.specs.Inspection.Image.{segments}
 use Rattle.erim_defs.specs.Machine.Pages.{code_bytes}
 use Rattle.erim_defs.specs.Inspection.Unsafe.{image_list}
 use Rattle.erim_defs.specs.Rewriting.NewFile.{function_of, program_of}
-use Rattle.erim_defs.specs.Rewriting.Rewriting.{image_runs}
-use Rattle.erim_defs.specs.Rewriting.Sites.{Function, Program, runs_from}
+use Rattle.erim_defs.specs.Rewriting.Rewriting.{image_regions}
+use Rattle.erim_defs.specs.Rewriting.Sites.{Function, Program, regions_from}
 
-pub runs_of_image : (image : List ℕ) (p : Program) (elements : List Found)
+pub regions_of_image : (image : List ℕ) (p : Program) (elements : List Found)
     → p ≡ program_of image → elements ≡ image_list image
-    → runs_from p None elements ≡ image_runs image
-unfolding image_runs
-runs_of_image image p elements is list = rw (is, list) refl
+    → regions_from p None elements ≡ image_regions image
+unfolding image_regions
+regions_of_image image p elements is list = rw (is, list) refl
 
 -- one function more
 pub functions_more : (bytes : List ℕ) (fs : List Span) (i : ℕ) (d : Span) (seen : List Function)

@@ -4,6 +4,6 @@ pub mod StretchLemmas
 pub mod FunctionLemmas
 pub mod ShortLemmas
 pub mod TargetLemmas
-pub mod RunLemmas
+pub mod RegionLemmas
 pub mod ListLemmas
 pub mod ImageLemmas

@@ -1,4 +1,4 @@
--- The instructions of a function stand one behind the other, and so its runs are short.
+-- The instructions of a function stand one after the other, and so its regions are short.
 use Rattle.std.proofs.Common.{◌≡◌, ℕ, zero, suc, ◌+◌, ◌-◌, ◌<◌, ◌≤◌, ◌^◌, List, [], ◌∷◌, length}
 use Rattle.std.proofs.Common.{drop, take, Option, Some, None, Result, Ok, Err, Bool, true, false}
 use Rattle.std.proofs.Common.{refl, arith, leb, IfSome, if◌then◌else◌}
@@ -9,7 +9,7 @@ use Rattle.std.proofs.lemmas.List.Elements.{All-nil, All-cons, All-head, All-tai
 use Rattle.erim_defs.specs.declared.grammar.Stop.{Stop}
 use Rattle.erim_defs.specs.Encoding.Decoding.{front_at}
 use Rattle.erim_defs.specs.Encoding.Grammar.{InsnAndSizes}
-use Rattle.erim_defs.specs.Rewriting.Standing.{Standing, behind, standing, standing_as, sweep}
+use Rattle.erim_defs.specs.Rewriting.Standing.{Standing, insn_end, standing, standing_as, sweep}
 use Rattle.erim_defs.specs.Rewriting.Standing.{then_more}
 use Rattle.erim_defs.specs.Rewriting.Sites.{end_of, insns_from, reaching, start_of}
 use Rattle.rewrite_sites.specs.Short.{IsShort}
@@ -39,10 +39,10 @@ lies_in at bytes = by (front_at 0 false false (take 15 bytes))
 -- ---- all of a sweep lie in its bytes
 
 abbrev Within : ℕ → ℕ → Standing → Type 0
-Within low high i = (low ≤ behind i) × (behind i ≤ high)
+Within low high i = (low ≤ insn_end i) × (insn_end i ≤ high)
 
 abbrev rest_of : ℕ → List ℕ → Standing → List Standing
-rest_of n bytes i = sweep n (behind i) (drop (length i.bytes) bytes)
+rest_of n bytes i = sweep n (insn_end i) (drop (length i.bytes) bytes)
 
 all_within : (n at : ℕ) (bytes : List ℕ) → All (Within at (at + length bytes)) (sweep n at bytes)
 unfolding sweep
@@ -57,33 +57,33 @@ all_within (suc n) at bytes = by (standing at bytes) (lies_in at bytes) (all_wit
         let size = length-drop (length i.bytes) bytes in
         All-cons (Within at (at + length bytes)) i (rest_of n bytes i)
         (omega (arith, h.0), omega (arith, h.0, h.1))
-        (All-weaker (Within (behind i) (behind i + length (drop (length i.bytes) bytes)))
+        (All-weaker (Within (insn_end i) (insn_end i + length (drop (length i.bytes) bytes)))
         (Within at (at + length bytes))
         (λ j w. (omega (arith, h.0, w.0), omega (arith, h.0, h.1, size, w.1))) (rest_of n bytes i)
-        (later (behind i) (drop (length i.bytes) bytes)))
+        (later (insn_end i) (drop (length i.bytes) bytes)))
 
 -- their ends rise
-rises_from : (x : Standing) (xs : List Standing) → All (λ i. behind x ≤ behind i) xs
-    → IsNonDecreasingBy behind xs → IsNonDecreasingBy behind (x ∷ xs)
+rises_from : (x : Standing) (xs : List Standing) → All (λ i. insn_end x ≤ insn_end i) xs
+    → IsNonDecreasingBy insn_end xs → IsNonDecreasingBy insn_end (x ∷ xs)
 rises_from x xs low rest zero zero d le lt = omega arith
 rises_from x xs low rest zero (suc j) d le lt = low j d (omega (arith, lt))
 rises_from x xs low rest (suc i) zero d le lt = absurd (omega (arith, le))
 rises_from x xs low rest (suc i) (suc j) d le lt =
     rest i j d (omega (arith, le)) (omega (arith, lt))
 
-pub swept_rises : (n at : ℕ) (bytes : List ℕ) → IsNonDecreasingBy behind (sweep n at bytes)
+pub swept_rises : (n at : ℕ) (bytes : List ℕ) → IsNonDecreasingBy insn_end (sweep n at bytes)
 unfolding sweep
 swept_rises zero at bytes = λ i j d le lt. absurd (omega (arith, lt))
 swept_rises (suc n) at bytes = by (standing at bytes) (swept_rises n)
   where
     by : (o : Option Standing)
-        → ((a : ℕ) (bs : List ℕ) → IsNonDecreasingBy behind (sweep n a bs))
-        → IsNonDecreasingBy behind (then_more o (rest_of n bytes))
+        → ((a : ℕ) (bs : List ℕ) → IsNonDecreasingBy insn_end (sweep n a bs))
+        → IsNonDecreasingBy insn_end (then_more o (rest_of n bytes))
     by None later = λ i j d le lt. absurd (omega (arith, lt))
     by (Some x) later =
         let rest = drop (length x.bytes) bytes in
         rises_from x (rest_of n bytes x)
-        (λ k d lt. (all_within n (behind x) rest k d lt).0) (later (behind x) rest)
+        (λ k d lt. (all_within n (insn_end x) rest k d lt).0) (later (insn_end x) rest)
 
 -- ---- instructions of a function are short, from each on
 
@@ -105,30 +105,30 @@ from_short a (suc n) at bytes few = by (standing at bytes) (lies_in at bytes) (f
     by (Some i) h later =
         let rest = drop (length i.bytes) bytes in
         let size = length-drop (length i.bytes) bytes in
-        let near : All (λ j. (i.at ≤ behind j) × (behind j ≤ i.at + 2 ^ 24))
+        let near : All (λ j. (i.at ≤ insn_end j) × (insn_end j ≤ i.at + 2 ^ 24))
         (i ∷ rest_of n bytes i) =
-        All-cons (λ j. (i.at ≤ behind j) × (behind j ≤ i.at + 2 ^ 24)) i (rest_of n bytes i)
+        All-cons (λ j. (i.at ≤ insn_end j) × (insn_end j ≤ i.at + 2 ^ 24)) i (rest_of n bytes i)
         (omega arith, omega (arith, h.1, few))
-        (All-weaker (Within (behind i) (behind i + length rest))
-        (λ j. (i.at ≤ behind j) × (behind j ≤ i.at + 2 ^ 24))
+        (All-weaker (Within (insn_end i) (insn_end i + length rest))
+        (λ j. (i.at ≤ insn_end j) × (insn_end j ≤ i.at + 2 ^ 24))
         (λ j w. (omega (arith, w.0), omega (arith, h.1, few, size, w.1))) (rest_of n bytes i)
-        (all_within n (behind i) rest)) in
-        short_either (leb (behind i) a) (insns_from a (rest_of n bytes i)) (i ∷ rest_of n bytes i)
-        (later (behind i) rest (omega (arith, size, few))) near
+        (all_within n (insn_end i) rest)) in
+        short_either (leb (insn_end i) a) (insns_from a (rest_of n bytes i)) (i ∷ rest_of n bytes i)
+        (later (insn_end i) rest (omega (arith, size, few))) near
 
 -- ---- so is each front of them
 
 end_within : (low high a : ℕ) (is : List Standing) → 0 < length is → All (Within low high) is
     → (low ≤ end_of (reaching a is)) × (end_of (reaching a is) ≤ high)
 end_within low high a [] some all = absurd (omega (arith, some))
-end_within low high a (i ∷ []) some all = by (leb a (behind i))
+end_within low high a (i ∷ []) some all = by (leb a (insn_end i))
   where
     by : (b : Bool) → (low ≤ end_of (i ∷ (if b then [] else [])))
         × (end_of (i ∷ (if b then [] else [])) ≤ high)
     by true = All-head (Within low high) i [] all
     by false = All-head (Within low high) i [] all
 end_within low high a (i ∷ j ∷ js) some all =
-    by (leb a (behind i)) (end_within low high a (j ∷ js) (omega arith)
+    by (leb a (insn_end i)) (end_within low high a (j ∷ js) (omega arith)
     (All-tail (Within low high) i (j ∷ js) all))
   where
     by : (b : Bool)

@@ -4,13 +4,13 @@ use Rattle.std.proofs.Common.{length, drop, append_assoc, Some, None, refl, sym,
 use Rattle.std.specs.Prelude.{sum_by}
 use Rattle.std.proofs.lemmas.List.{append-nil, length-drop}
 use Rattle.std.proofs.lemmas.List.Sums.{sum_by-append}
-use Rattle.erim_defs.specs.Rewriting.Standing.{Standing, behind, standing, then_more, sweep}
+use Rattle.erim_defs.specs.Rewriting.Standing.{Standing, insn_end, standing, then_more, sweep}
 
 -- how many bytes instructions have
 abbrev pub size_of : List Standing → ℕ
 size_of is = sum_by (λ i. length i.bytes) is
 
--- what a sweep of so many bytes has when some were swept, with a fuel that is enough
+-- what a sweep of a given number of bytes has when some were swept, with a fuel that is enough
 pub record Told (all : List Standing) (size : ℕ) (swept : List Standing) (at : ℕ) (rest : List ℕ)
     : Type 0 where
   pub fuel : ℕ
@@ -46,7 +46,7 @@ told_next all size swept at rest i t stands place some room = by t.fuel t.enough
           (sweep n (at + length i.bytes) (drop (length i.bytes) rest))
           ∙ (ap (λ a. swept ++ i ∷ sweep n (a + length i.bytes) (drop (length i.bytes) rest))
           (sym place)
-          ∙ (ap (λ o. swept ++ then_more o (λ j. sweep n (behind j) (drop (length j.bytes) rest)))
+          ∙ (ap (λ o. swept ++ then_more o (λ j. sweep n (insn_end j) (drop (length j.bytes) rest)))
           stands ∙ told));
       sizes = omega (arith, t.sizes, room, size_more swept i, length-drop (length i.bytes) rest);
     }
@@ -59,7 +59,7 @@ told_end all size swept at rest t none = by t.fuel t.told
     by : (n : ℕ) → swept ++ sweep n at rest ≡ all → swept ≡ all
     by zero told = sym (append-nil swept) ∙ told
     by (suc n) told = sym (append-nil swept)
-        ∙ (ap (λ o. swept ++ then_more o (λ j. sweep n (behind j) (drop (length j.bytes) rest)))
+        ∙ (ap (λ o. swept ++ then_more o (λ j. sweep n (insn_end j) (drop (length j.bytes) rest)))
         none
         ∙ told)
 

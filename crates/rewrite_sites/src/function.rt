@@ -10,7 +10,7 @@ use crate::stretch::from_holding;
 use std::alloc::{AllocError, Global};
 use std::marker::Model;
 
-/// The bytes behind the first `n`.
+/// The bytes after the first `n`.
 fn bytes_behind(bytes: &[u8], n: usize) -> &[u8]
     requires { n ≤ length bytes.now }
     ensures { result.now ≡ drop n bytes.now }

@@ -2,7 +2,7 @@
 
 ghost use Rattle.std.specs.Prelude.{◌≡◌, ◌+◌, ◌-◌, ◌<◌, ◌≤◌, ◌^◌, ◌&&◌, ◌||◌, IfSome, is_some};
 ghost use Rattle.std.specs.Prelude.{slice_index, length};
-ghost use Rattle.erim_defs.specs.Rewriting.Standing.{behind, disp_place, in_disp, in_number};
+ghost use Rattle.erim_defs.specs.Rewriting.Standing.{insn_end, disp_place, in_disp, in_number};
 ghost use Rattle.erim_defs.specs.Rewriting.Standing.{in_part, rel_of, has_rip, target_of};
 ghost use Rattle.erim_defs.specs.Rewriting.Standing.{standing, modrm_of, rip_target};
 ghost use Rattle.erim_defs.specs.Encoding.Parts.{signed_value};
@@ -72,7 +72,7 @@ fn in_part(place: u64, len: u8, a: u64) -> bool
     place <= a && a < place + u64::from(len)
 }
 
-/// A byte, or 0 behind the last.
+/// A byte, or 0 after the last.
 fn byte_or_zero(bytes: &[u8], place: usize) -> u8
     ensures { result ≡ slice_index bytes.now place }
 {
@@ -163,7 +163,8 @@ impl Instruction<'_> {
     {
         let place = self.disp_offset();
         let disp = signed_value(&self.bytes[place..place + self.disp as usize]);
-        self.behind().wrapping_add(i64::from(disp).cast_unsigned())
+        self.insn_end()
+            .wrapping_add(i64::from(disp).cast_unsigned())
     }
 
     /// Its address.
@@ -182,9 +183,9 @@ impl Instruction<'_> {
         self.bytes.len()
     }
 
-    /// The address behind it.
-    pub fn behind(&self) -> u64
-        ensures end { result ≡ behind self.now }
+    /// The address after it.
+    pub fn insn_end(&self) -> u64
+        ensures end { result ≡ insn_end self.now }
         ensures low { result < 2 ^ 48 }
     {
         self.at + self.bytes.len() as u64
@@ -194,7 +195,7 @@ impl Instruction<'_> {
     pub fn in_disp(&self, a: u64) -> bool
         ensures { result ≡ in_disp self.now a }
     {
-        let place = self.behind() - (u64::from(self.imm) + u64::from(self.disp));
+        let place = self.insn_end() - (u64::from(self.imm) + u64::from(self.disp));
         in_part(place, self.disp, a)
     }
 
@@ -202,10 +203,10 @@ impl Instruction<'_> {
     pub fn in_number(&self, a: u64) -> bool
         ensures { result ≡ in_number self.now a }
     {
-        in_part(self.behind() - u64::from(self.imm), self.imm, a)
+        in_part(self.insn_end() - u64::from(self.imm), self.imm, a)
     }
 
-    /// The byte behind its opcode.
+    /// The byte after its opcode.
     fn modrm(&self) -> u8
         ensures { result ≡ modrm_of self.now }
     {
@@ -236,7 +237,7 @@ impl Instruction<'_> {
         ensures { result ≡ target_of self.now }
     {
         let rel = rel_of(&self.insn)?;
-        Some(self.behind().wrapping_add(i64::from(rel).cast_unsigned()))
+        Some(self.insn_end().wrapping_add(i64::from(rel).cast_unsigned()))
     }
 
     /// Is it a MOV of an immediate into a register?
@@ -265,7 +266,7 @@ impl Instruction<'_> {
         requires { element.now.at < 2 ^ 47 }
         ensures { result ≡ holds_core element.now self.now }
     {
-        self.at <= element.at && element.at + 3 <= self.behind()
+        self.at <= element.at && element.at + 3 <= self.insn_end()
     }
 
     /// Do the first three bytes of a sequence lie in it, and touch a displacement without RIP?

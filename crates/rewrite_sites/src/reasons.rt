@@ -70,8 +70,8 @@ fn why_within(insns: &[Instruction<'_>], element: &Found) -> Option<Why>
     }
 }
 
-/// Why a sequence can't be rewritten, by its run: where that starts, up to where it has to go, and
-/// its instructions.
+/// Why a sequence can't be rewritten, by its region: where that starts, up to where it has to go,
+/// and its instructions.
 pub fn why(
     program: &Program<'_>,
     start: u64,

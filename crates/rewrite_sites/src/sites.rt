@@ -8,21 +8,21 @@ ghost use Rattle.erim_defs.specs.Inspection.Image.{IsPlaced, code_of, holds_func
 ghost use Rattle.erim_defs.specs.Inspection.Image.{image_functions, page_count, shares_page};
 ghost use Rattle.erim_defs.specs.Machine.Pages.{code_bytes};
 ghost use Rattle.erim_defs.specs.Rewriting.NewFile.{function_of, program_of};
-ghost use Rattle.erim_defs.specs.Rewriting.Rewriting.{image_runs};
-ghost use Rattle.erim_defs.specs.Rewriting.Sites.{run_end, run_start};
-ghost use Rattle.rewrite_sites.specs.Shown.{FaultIs, shown, site_at, sites_of};
+ghost use Rattle.erim_defs.specs.Rewriting.Rewriting.{image_regions};
+ghost use Rattle.erim_defs.specs.Rewriting.Sites.{region_end, region_start};
+ghost use Rattle.rewrite_sites.specs.Shown.{FaultIs, sites_or_obstacle, site_at, sites_of};
 
 use crate::elements::unsafe_sequences;
 use crate::function::Function;
 use crate::program::Program;
-use crate::run::Run;
-use crate::runs::{SiteFault, find_runs};
+use crate::region::Region;
+use crate::regions::{SiteFault, find_regions};
 use elf_image::Image;
 use erim_defs::{Found, NoMemory, Segment, Span};
 use std::alloc::{AllocError, Global};
 
-/// A run of instructions that can be rewritten: its first element, its address, and how many bytes
-/// it has.
+/// A region of instructions that can be rewritten: its first element, its address, and how many
+/// bytes it has.
 #[derive(Clone, Copy, PartialEq, Eq)]
 pub struct Site {
     pub found: Found,
@@ -76,7 +76,7 @@ fn file_part<'a>(bytes: &'a [u8], segments: &[Segment], function: &Span) -> &'a 
     &[]
 }
 
-/// The functions that an image tells, each with its bytes.
+/// The functions that an image lists, each with its bytes.
 pub fn functions_of(alloc: Global, image: &Image) -> Result<Vec<Function<'_>>, AllocError>
     ensures { IfOk result (λ all. all.items
         ≡ map (function_of image.now) (image_functions image.now)) }
@@ -102,46 +102,46 @@ pub fn image_program<'a>(
     Program::new(alloc, functions, image.trust(), image.entry())
 }
 
-/// The runs of the unsafe sequences of an image, by rising address, or the first sequence that
+/// The regions of the unsafe sequences of an image, by rising address, or the first sequence that
 /// can't be rewritten.
-#[tactic(auto, using(crate::proofs::ImageLemmas::runs_of_image))]
-pub fn image_runs<'a>(
+#[tactic(auto, using(crate::proofs::ImageLemmas::regions_of_image))]
+pub fn image_regions<'a>(
     alloc: Global,
     image: &Image,
     program: &'a Program<'_>,
-) -> Result<Vec<Run<'a>>, SiteFault>
+) -> Result<Vec<Region<'a>>, SiteFault>
     requires { program.now ≡ program_of image.now }
     ensures { MatchResult result
-        (λ runs. image_runs image.now ≡ Ok runs.items)
-        (λ fault. FaultIs (image_runs image.now) fault) }
+        (λ regions. image_regions image.now ≡ Ok regions.items)
+        (λ fault. FaultIs (image_regions image.now) fault) }
 {
     let elements = unsafe_sequences(alloc, image)?;
-    find_runs(alloc, program, elements.as_slice())
+    find_regions(alloc, program, elements.as_slice())
 }
 
-/// Takes the site of a run into a list.
-fn push_site(list: &mut Vec<Site>, run: &Run<'_>) -> Result<(), NoMemory>
+/// Takes the site of a region into a list.
+fn push_site(list: &mut Vec<Site>, region: &Region<'_>) -> Result<(), NoMemory>
     ensures { OnOk result (list.new.items
-        ≡ list.old.items ++ site_at run.now.elements (run_start run.now) (run_end run.now)) }
+        ≡ list.old.items ++ site_at region.now.elements (region_start region.now) (region_end region.now)) }
 {
-    if let Some(found) = run.elements().first() {
+    if let Some(found) = region.elements().first() {
         list.push(Site {
             found: *found,
-            start: run.start(),
-            length: run.len(),
+            start: region.start(),
+            length: region.len(),
         })?;
     }
     Ok(())
 }
 
-/// The sites of runs: a run with its first element.
-#[tactic(auto, using(crate::proofs::RunLemmas::sites_more, crate::proofs::RunLemmas::sites_done))]
-pub fn sites_of(alloc: Global, runs: &[Run<'_>]) -> Result<Sites, NoMemory>
-    ensures { IfOk result (λ sites. sites.list.items ≡ sites_of runs.now) }
+/// The sites of regions: a region with its first element.
+#[tactic(auto, using(crate::proofs::RegionLemmas::sites_more, crate::proofs::RegionLemmas::sites_done))]
+pub fn sites_of(alloc: Global, regions: &[Region<'_>]) -> Result<Sites, NoMemory>
+    ensures { IfOk result (λ sites. sites.list.items ≡ sites_of regions.now) }
 {
     let mut list = Vec::new(alloc);
-    for run in runs {
-        push_site(&mut list, run)?;
+    for region in regions {
+        push_site(&mut list, region)?;
     }
     Ok(Sites { list })
 }
@@ -149,11 +149,11 @@ pub fn sites_of(alloc: Global, runs: &[Run<'_>]) -> Result<Sites, NoMemory>
 /// The sites of an image, or its first unsafe sequence that can't be rewritten.
 pub fn find_sites(alloc: Global, image: &Image) -> Result<Sites, SiteFault>
     ensures { MatchResult result
-        (λ sites. shown (image_runs image.now) ≡ Ok sites.list.items)
-        (λ fault. FaultIs (shown (image_runs image.now)) fault) }
+        (λ sites. sites_or_obstacle (image_regions image.now) ≡ Ok sites.list.items)
+        (λ fault. FaultIs (sites_or_obstacle (image_regions image.now)) fault) }
 {
     let functions = functions_of(alloc, image)?;
     let program = image_program(alloc, image, functions.as_slice())?;
-    let runs = image_runs(alloc, image, &program)?;
-    Ok(sites_of(alloc, runs.as_slice())?)
+    let regions = image_regions(alloc, image, &program)?;
+    Ok(sites_of(alloc, regions.as_slice())?)
 }

@@ -7,13 +7,13 @@ use Rattle.std.proofs.lemmas.List.{length-append}
 use Rattle.erim_defs.specs.declared.found.Found.{Found}
 use Rattle.erim_defs.specs.declared.insn.Insn.{Insn}
 use Rattle.erim_defs.specs.declared.insn.Insn.TheVariants.{Jmp, Jcc}
-use Rattle.erim_defs.specs.Rewriting.Standing.{Standing, behind, has_rip}
+use Rattle.erim_defs.specs.Rewriting.Standing.{Standing, insn_end, has_rip}
 use Rattle.erim_defs.specs.Rewriting.Sites.{holds_core, moves_number}
 use Rattle.erim_defs.specs.Rewriting.Copies.{Part, with_rel, is_jump, jumping, split, split_parts}
 use Rattle.erim_defs.specs.Rewriting.Copies.{insn_parts, bytes_of, goes_on, filler, parts_from}
 use Rattle.rewriting_laws.specs.ChainLaw.{IsChain, ChainLaw}
 
--- ---- parts of one instruction, from its address on to the address behind it
+-- ---- parts of one instruction, from its address on to the address after it
 
 -- parts that go on to others
 abbrev IsLink : ℕ → ℕ → ℕ → List Part → Type 0
@@ -36,12 +36,12 @@ linked (p ∷ ps) qs at home next end l c = longer p (ps ++ qs) at home end l.0 
     longer p (r ∷ rs) at home end a h c = (a, h, c)
 
 split_link : (o : Option (List ℕ × List ℕ)) (at : ℕ) (i : Standing)
-    → IsLink at i.at (behind i) (split_parts o at i)
+    → IsLink at i.at (insn_end i) (split_parts o at i)
 split_link None at i = (refl, refl, refl)
 split_link (Some pair) at i = (refl, refl, (refl, refl, refl))
 
 jump_link : (o : Option Insn) (at : ℕ) (z : ℤ) (i : Standing) → (o ≡ None → ⊥)
-    → IsLink at i.at (behind i) (jumping o at z i)
+    → IsLink at i.at (insn_end i) (jumping o at z i)
 jump_link None at z i some = absurd (some refl)
 jump_link (Some insn) at z i some = (refl, refl, refl)
 
@@ -51,25 +51,25 @@ is_rel (Jcc c rel) z h e = absurd cc
 is_rel other z h e = absurd cc
 
 insn_link : (elements : List Found) (at : ℕ) (i : Standing)
-    → IsLink at i.at (behind i) (insn_parts elements at i)
+    → IsLink at i.at (insn_end i) (insn_parts elements at i)
 unfolding insn_parts
 insn_link elements at i = by (is_jump i.insn) refl (moves_number i.insn
     && list_any (λ e. holds_core e i) elements) refl (has_rip i) refl
   where
     by : (a : Bool) → is_jump i.insn ≡ a → (b : Bool) → (moves_number i.insn
         && list_any (λ e. holds_core e i) elements) ≡ b → (c : Bool) → has_rip i ≡ c
-        → IsLink at i.at (behind i) (insn_parts elements at i)
+        → IsLink at i.at (insn_end i) (insn_parts elements at i)
     by true x b y c z = rw x (jump_link _ at _ i (is_rel i.insn _ x))
     by false x true y c z = rw (x, y) (split_link (split i.insn) at i)
     by false x false y true z = rw (x, y, z) (refl, refl, refl)
     by false x false y false z = rw (x, y, z) (refl, refl, refl)
 
 filler_link : (elements : List Found) (at : ℕ) (i : Standing)
-    → IsLink at (behind i) (behind i) (filler elements at i)
+    → IsLink at (insn_end i) (insn_end i) (filler elements at i)
 filler_link elements at i = by (list_any (goes_on i) elements) refl
   where
     by : (b : Bool) → list_any (goes_on i) elements ≡ b →
-        IsLink at (behind i) (behind i) (filler elements at i)
+        IsLink at (insn_end i) (insn_end i) (filler elements at i)
     by true e = rw e (refl, refl, refl)
     by false e = rw e refl
 
@@ -80,8 +80,9 @@ chain elements (i ∷ is) at home end adj =
     let own = insn_parts elements at i in
     let gap = filler elements (at + length (bytes_of own)) i in
     let rest = parts_from elements end (at + length (bytes_of own) + length (bytes_of gap)) is in
-    linked own (gap ++ rest) at home (behind i) end (subst (λ h. IsLink at h (behind i) own) adj.0
+    linked own (gap ++ rest) at home (insn_end i) end (subst (λ h. IsLink at h
+    (insn_end i) own) adj.0
     (insn_link elements at i))
-    (linked gap rest (at + length (bytes_of own)) (behind i) (behind i) end
+    (linked gap rest (at + length (bytes_of own)) (insn_end i) (insn_end i) end
     (filler_link elements (at + length (bytes_of own)) i)
-    (chain elements is (at + length (bytes_of own) + length (bytes_of gap)) (behind i) end adj.1))
+    (chain elements is (at + length (bytes_of own) + length (bytes_of gap)) (insn_end i) end adj.1))

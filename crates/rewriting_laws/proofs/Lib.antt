@@ -2,7 +2,8 @@ pub mod UntouchedLemmas
 pub mod KnownLemmas
 pub mod QuietLemmas
 pub mod SafeLemmas
-pub mod RunLemmas
+pub mod RegionLemmas
 pub mod ChainLemmas
 pub mod SweepLemmas
 pub mod PlaceLemmas
+pub mod GroundLemmas

@@ -1,4 +1,4 @@
--- The runs of an accepted image lie in the file: each lies in a function, and that in a segment.
+-- The regions of an accepted image lie in the file: each lies in a function, and that in a segment.
 use Rattle.std.proofs.Common.{◌≡◌, ◌∙◌, ℕ, zero, suc, ◌+◌, ◌-◌, ◌/◌, ◌<◌, ◌≤◌, ◌&&◌}
 use Rattle.std.proofs.Common.{Bool, true, false}
 use Rattle.std.proofs.Common.{List, [], ◌∷◌, ◌++◌, length, map, get_or, not}
@@ -21,24 +21,25 @@ use Rattle.erim_defs.specs.Inspection.Image.{shares_page, touches}
 use Rattle.erim_defs.specs.Inspection.Unsafe.{image_list}
 use Rattle.erim_defs.specs.Machine.Pages.{code_bytes, code_bytes_on}
 use Rattle.erim_defs.specs.Rewriting.NewFile.{file_place, function_of, has_in_file, program_of}
-use Rattle.erim_defs.specs.Rewriting.Rewriting.{image_runs}
-use Rattle.erim_defs.specs.Rewriting.Sites.{Function, Program, Refused, Run, begun}
+use Rattle.erim_defs.specs.Rewriting.Rewriting.{image_regions}
+use Rattle.erim_defs.specs.Rewriting.Sites.{Function, Program, Obstacle, Region, region_at}
 use Rattle.erim_defs.specs.Rewriting.Sites.{first_of, in_function, insns_from, insns_in, insns_of}
-use Rattle.erim_defs.specs.Rewriting.Sites.{is_whole, left_by, or_refuse, run_end, run_for}
-use Rattle.erim_defs.specs.Rewriting.Sites.{run_goal, run_insns, run_start, runs_by}
-use Rattle.erim_defs.specs.Rewriting.Sites.{tests, why, with_runs}
+use Rattle.erim_defs.specs.Rewriting.Sites.{is_whole, left_by, or_refuse, region_end, region_for}
+use Rattle.erim_defs.specs.Rewriting.Sites.{region_goal, region_insns, region_start, regions_by}
+use Rattle.erim_defs.specs.Rewriting.Sites.{tests, why, with_regions}
 use Rattle.erim_defs.proofs.FilePartLemmas.{Holds, functions_held, holds_view}
 use Rattle.erim_defs.proofs.PageLemmas.{apart_page, touches_from}
 use Rattle.erim_defs.proofs.PlaceLemmas.{accepted_segments}
-use Rattle.rewriting_laws.specs.PlaceLaws.{HasPlace, PlaceLaw}
-use Rattle.rewriting_laws.specs.RunLaws.{IsWide}
-use Rattle.rewriting_laws.proofs.RunLemmas.{in_both, none_holds, runs_law, with_view}
+use Rattle.erim_defs.specs.Rewriting.NewFile.{HasPlace}
+use Rattle.rewriting_laws.specs.PlaceLaws.{PlaceLaw}
+use Rattle.rewriting_laws.specs.RegionLaws.{IsWide}
+use Rattle.rewriting_laws.proofs.RegionLemmas.{in_both, none_holds, regions_law, with_view}
 use Rattle.rewriting_laws.proofs.SweepLemmas.{Within, bounds, from_within, swept_within}
 
--- ---- a run lies in a function
+-- ---- a region lies in a function
 
 -- its instructions are those of a function from some address on
-record LiesIn (p : Program) (r : Run) : Type 0 where
+pub record LiesIn (p : Program) (r : Region) : Type 0 where
   pub function : Function
   pub there : In p.functions function
   pub low : ℕ
@@ -69,13 +70,13 @@ first_there a (f ∷ fs) h = by (in_function a f) refl (first_there a fs)
     by false e rest = later e (rest (sym (rw e refl) ∙ h))
 
 -- an element that isn't refused has a function that decodes
-decodes : (p : Program) (r : Run) (e : Found) → why p r e ≡ None
+decodes : (p : Program) (r : Region) (e : Found) → why p r e ≡ None
     → list_any (λ f. in_function e.at f && is_whole f) p.functions ≡ true
 unfolding why
 decodes p r e h =
     let known : Bool = list_any (λ f. in_function e.at f && is_whole f) p.functions in
     let off : not known ≡ false = none_holds
-    (tests p (run_start r) (run_goal r) (run_insns r) e)
+    (tests p (region_start r) (region_goal r) (region_insns r) e)
     (not known, reasons.Undecoded) h (inr (inr (inl refl))) in
     by known off
   where
@@ -84,7 +85,7 @@ decodes p r e h =
     by false e = absurd cc
 
 begun_lies : (p : Program) (e : Found)
-    → list_any (λ f. in_function e.at f && is_whole f) p.functions ≡ true → LiesIn p (begun p e)
+    → list_any (λ f. in_function e.at f && is_whole f) p.functions ≡ true → LiesIn p (region_at p e)
 begun_lies p e h =
     let first = first_there e.at p.functions h in
     record {
@@ -94,62 +95,62 @@ begun_lies p e h =
       from = ap (λ o. insns_from e.at (insns_in o)) first.is;
     }
 
-BeforeLies : Program → Option Run → Type 0
+pub BeforeLies : Program → Option Region → Type 0
 BeforeLies p None = Unit {0}
 BeforeLies p (Some r) = LiesIn p r
 
-for_lies : (p : Program) (before : Option Run) (e : Found) → BeforeLies p before
+for_lies : (p : Program) (before : Option Region) (e : Found) → BeforeLies p before
     → list_any (λ f. in_function e.at f && is_whole f) p.functions ≡ true
-    → LiesIn p (run_for (begun p) before e)
+    → LiesIn p (region_for (region_at p) before e)
 unfolding BeforeLies
 for_lies p None e b h = begun_lies p e h
-for_lies p (Some q) e b h = by (ltb e.at (run_end q)) refl
+for_lies p (Some q) e b h = by (ltb e.at (region_end q)) refl
   where
     grown : LiesIn p (record q { elements = q.elements ++ e ∷ [] })
     grown = record { function = b.function; there = b.there; low = b.low; from = b.from }
 
-    by : (x : Bool) → ltb e.at (run_end q) ≡ x → LiesIn p (run_for (begun p) (Some q) e)
+    by : (x : Bool) → ltb e.at (region_end q) ≡ x → LiesIn p (region_for (region_at p) (Some q) e)
     by true same = rw same grown
     by false same = rw same (begun_lies p e h)
 
-left_lies : (p : Program) (before : Option Run) (e : Found) → BeforeLies p before → (r : Run)
+left_lies : (p : Program) (before : Option Region) (e : Found) → BeforeLies p before → (r : Region)
     → In (left_by before e) r → LiesIn p r
 unfolding BeforeLies
 left_lies p None e b r w = absurd w
-left_lies p (Some q) e b r w = by (ltb e.at (run_end q)) refl
+left_lies p (Some q) e b r w = by (ltb e.at (region_end q)) refl
   where
-    by : (x : Bool) → ltb e.at (run_end q) ≡ x → LiesIn p r
+    by : (x : Bool) → ltb e.at (region_end q) ≡ x → LiesIn p r
     by true h = (let no : In [] r = rw h at w in absurd no)
     by false h = (let one : In (q ∷ []) r = rw h at w in
         elim one [ inl same ↦ subst (LiesIn p) same b | inr none ↦ absurd none ])
 
-runs_lie : (p : Program) (es : List Found) (before : Option Run) (runs : List Run)
-    → BeforeLies p before → runs_by (begun p) (why p) before es ≡ Ok runs → (r : Run)
-    → In runs r → LiesIn p r
-unfolding runs_by BeforeLies
-runs_lie p [] None runs b h r w =
-    (let e : [] ≡ runs = cc in let no : In [] r = subst (λ rs. In rs r) (sym e) w in absurd no)
-runs_lie p [] (Some q) runs b h r w =
-    (let e : q ∷ [] ≡ runs = cc in
+pub regions_lie : (p : Program) (es : List Found) (before : Option Region) (regions : List Region)
+    → BeforeLies p before → regions_by (region_at p) (why p) before es ≡ Ok regions → (r : Region)
+    → In regions r → LiesIn p r
+unfolding regions_by BeforeLies
+regions_lie p [] None regions b h r w =
+    (let e : [] ≡ regions = cc in let no : In [] r = subst (λ rs. In rs r) (sym e) w in absurd no)
+regions_lie p [] (Some q) regions b h r w =
+    (let e : q ∷ [] ≡ regions = cc in
     let one : In (q ∷ []) r = subst (λ rs. In rs r) (sym e) w in
     elim one [ inl same ↦ subst (LiesIn p) same b | inr none ↦ absurd none ])
-runs_lie p (e ∷ es) before runs b h r w =
-    by (why p (run_for (begun p) before e) e) refl
-    (runs_lie p es (Some (run_for (begun p) before e)))
+regions_lie p (e ∷ es) before regions b h r w =
+    by (why p (region_for (region_at p) before e) e) refl
+    (regions_lie p es (Some (region_for (region_at p) before e)))
   where
-    rest : Result (List Run) Refused
-    rest = runs_by (begun p) (why p) (Some (run_for (begun p) before e)) es
+    rest : Result (List Region) Obstacle
+    rest = regions_by (region_at p) (why p) (Some (region_for (region_at p) before e)) es
 
-    by : (o : Option Why) → why p (run_for (begun p) before e) e ≡ o
-        → ((more : List Run) → LiesIn p (run_for (begun p) before e) → rest ≡ Ok more
-        → (s : Run) → In more s → LiesIn p s) → LiesIn p r
+    by : (o : Option Why) → why p (region_for (region_at p) before e) e ≡ o
+        → ((more : List Region) → LiesIn p (region_for (region_at p) before e) → rest ≡ Ok more
+        → (s : Region) → In more s → LiesIn p s) → LiesIn p r
     by (Some y) x next = (let no : Err (record { at = e.at; why = y })
-        ≡ Ok runs = sym (ap (λ o. or_refuse o e (with_runs (left_by before e) rest)) x) ∙ h in
+        ≡ Ok regions = sym (ap (λ o. or_refuse o e (with_regions (left_by before e) rest)) x) ∙ h in
         absurd cc)
     by None x next =
-        let v = with_view (left_by before e) rest runs (sym
-        (ap (λ o. or_refuse o e (with_runs (left_by before e) rest)) x) ∙ h) in
-        let here = for_lies p before e b (decodes p (run_for (begun p) before e) e x) in
+        let v = with_view (left_by before e) rest regions (sym
+        (ap (λ o. or_refuse o e (with_regions (left_by before e) rest)) x) ∙ h) in
+        let here = for_lies p before e b (decodes p (region_for (region_at p) before e) e x) in
         elim (in_both (left_by before e) v.0 r (subst (λ rs. In rs r) v.2 w)) [
           | inl i ↦ left_lies p before e b r i
           | inr i ↦ next v.0 here v.1 r i
@@ -160,17 +161,17 @@ runs_lie p (e ∷ es) before runs b h r w =
 all_tail : {X : Type 0} (P : X → Type 0) (x : X) (xs : List X) → All P (x ∷ xs) → All P xs
 all_tail P x xs all k d lt = all (suc k) d (omega (arith, lt))
 
-all_in : {X : Type 0} (P : X → Type 0) (xs : List X) (x : X) → All P xs → In xs x → P x
+pub all_in : {X : Type 0} (P : X → Type 0) (xs : List X) (x : X) → All P xs → In xs x → P x
 all_in P [] x all w = absurd w
 all_in P (y ∷ ys) x all (inl same) = subst P same (all 0 y (omega arith))
 all_in P (y ∷ ys) x all (inr w) = all_in P ys x (all_tail P y ys all) w
 
-in_at : {X : Type 0} (xs : List X) (k : ℕ) (d : X) → k < length xs → In xs (get_or xs k d)
+pub in_at : {X : Type 0} (xs : List X) (k : ℕ) (d : X) → k < length xs → In xs (get_or xs k d)
 in_at [] k d lt = absurd (omega (arith, lt))
 in_at (x ∷ xs) zero d lt = inl refl
 in_at (x ∷ xs) (suc k) d lt = inr (in_at xs k d (omega (arith, lt)))
 
-in_map : {X Y : Type 0} (f : X → Y) (xs : List X) (y : Y) → In (map f xs) y
+pub in_map : {X Y : Type 0} (f : X → Y) (xs : List X) (y : Y) → In (map f xs) y
     → (x : X) × In xs x × (f x ≡ y)
 in_map f [] y w = absurd w
 in_map f (x ∷ xs) y (inl same) = (x, inl refl, same)
@@ -276,7 +277,7 @@ place_within n (t ∷ ts) s a e placed apart held low some high =
         (let behind : file_place ts a + (e - a) ≤ n = rest (sym (rw holds refl) ∙ held) in
         rw has behind)
 
--- ---- a run of an accepted image lies in its file
+-- ---- a region of an accepted image lies in its file
 
 function_within : (bytes : List ℕ) (s : Span)
     → Within s.start (s.start + s.length) (insns_of (function_of bytes s))
@@ -286,38 +287,57 @@ function_within bytes s =
     swept_within (length code) s.start s.start (s.start + s.length) code (omega arith)
     (omega (arith, le))
 
-run_within : (bytes : List ℕ) (s : Span) (f : Function) (r : Run) (a : ℕ)
+pub region_within : (bytes : List ℕ) (s : Span) (f : Function) (r : Region) (a : ℕ)
     → function_of bytes s ≡ f → r.from ≡ insns_from a (insns_of f)
     → Within s.start (s.start + s.length) r.from
-run_within bytes s f r a same from =
+region_within bytes s f r a same from =
     let whole : Within s.start (s.start + s.length) (insns_of f) =
     subst (λ g. Within s.start (s.start + s.length) (insns_of g)) same (function_within bytes s) in
     subst (Within s.start (s.start + s.length)) (sym from)
     (from_within s.start (s.start + s.length) a (insns_of f) whole)
 
-has_place : (bytes : List ℕ) (r : Run) → IsAccepted bytes → LiesIn (program_of bytes) r → IsWide r
-    → HasPlace bytes r
+-- a region has the range of a function, which some segment's file part holds
+pub record IsHeld (bytes : List ℕ) (r : Region) : Type 0 where
+  pub span : Span
+  pub held : list_any (holds_function span) (segments bytes) ≡ true
+  pub low : span.start ≤ region_start r
+  pub high : region_end r ≤ span.start + span.length
+
+pub is_held : (bytes : List ℕ) (r : Region) → IsAccepted bytes → LiesIn (program_of bytes) r
+    → IsWide r → IsHeld bytes r
 unfolding program_of
-has_place bytes r h lies wide =
-    let l = accepted_segments bytes h in
+is_held bytes r h lies wide =
     let m = in_map (function_of bytes) (image_functions bytes) lies.function lies.there in
     let s : Span = m.0 in
     let held : list_any (holds_function s) (segments bytes) ≡ true =
     all_in (λ f. list_any (holds_function f) (segments bytes) ≡ true) (image_functions bytes) s
     (functions_held bytes h) m.1 in
-    let within = run_within bytes s lies.function r lies.low m.2 lies.from in
-    let five : run_start r + 5 ≤ run_end r = wide.five in
-    let b = bounds s.start (s.start + s.length) (run_goal r) r.from within five in
+    let within = region_within bytes s lies.function r lies.low m.2 lies.from in
+    let b = bounds s.start (s.start + s.length) (region_goal r) r.from within wide.five in
+    record { span = s; held = held; low = b.0; high = b.1 }
+
+has_place : (bytes : List ℕ) (r : Region) → IsAccepted bytes → LiesIn (program_of bytes) r
+    → IsWide r → HasPlace bytes r
+has_place bytes r h lies wide =
+    let l = accepted_segments bytes h in
+    let is = is_held bytes r h lies wide in
+    let five : region_start r + 5 ≤ region_end r = wide.five in
     record {
-      within = place_within (length bytes) (segments bytes) s (run_start r) (run_end r) l.placed
-          l.apart held b.0 (omega (arith, five)) b.1;
+      within = place_within (length bytes) (segments bytes) is.span (region_start r)
+          (region_end r) l.placed l.apart is.held is.low (omega (arith, five)) is.high;
       five = five;
     }
 
+-- each region of an accepted image lies in a function, and is wide
+pub each_region : (bytes : List ℕ) (regions : List Region) → image_regions bytes ≡ Ok regions
+    → (r : Region) → In regions r → LiesIn (program_of bytes) r × IsWide r
+unfolding image_regions BeforeLies
+each_region bytes regions e r there = (
+  regions_lie (program_of bytes) (image_list bytes) None regions tt e r there,
+  (regions_law (program_of bytes) (image_list bytes) regions e).1 r there,
+)
+
 pub places : PlaceLaw
-unfolding image_runs BeforeLies
-places bytes runs h e k d lt =
-    let there = in_at runs k d lt in
-    has_place bytes (get_or runs k d) h
-    (runs_lie (program_of bytes) (image_list bytes) None runs tt e (get_or runs k d) there)
-    ((runs_law (program_of bytes) (image_list bytes) runs e).1 (get_or runs k d) there)
+places bytes regions h e k d lt =
+    let each = each_region bytes regions e (get_or regions k d) (in_at regions k d lt) in
+    has_place bytes (get_or regions k d) h each.0 each.1

@@ -1,4 +1,4 @@
--- The instructions of a function lie in it, and so do those of a run.
+-- The instructions of a function lie in it, and so do those of a region.
 use Rattle.std.proofs.Common.{◌≡◌, ℕ, zero, suc, ◌+◌, ◌-◌, ◌≤◌, Bool, true, false, List, [], ◌∷◌}
 use Rattle.std.proofs.Common.{length, take, drop, Option, Some, None, Result, Ok, Err, refl}
 use Rattle.std.proofs.Common.{arith, subst}
@@ -7,14 +7,14 @@ use Rattle.std.proofs.lemmas.List.{length-take, length-drop}
 use Rattle.erim_defs.specs.declared.grammar.Stop.{Stop}
 use Rattle.erim_defs.specs.Encoding.Decoding.{front_at}
 use Rattle.erim_defs.specs.Encoding.Grammar.{InsnAndSizes}
-use Rattle.erim_defs.specs.Rewriting.Standing.{Standing, behind, standing, standing_as, sweep}
+use Rattle.erim_defs.specs.Rewriting.Standing.{Standing, insn_end, standing, standing_as, sweep}
 use Rattle.erim_defs.specs.Rewriting.Standing.{then_more}
 use Rattle.erim_defs.specs.Rewriting.Sites.{end_of, insns_from, reaching, start_of}
 
 -- instructions lie from an address up to another
 abbrev pub Within : ℕ → ℕ → List Standing → Type 0
 Within low high [] = Unit {0}
-Within low high (i ∷ is) = (low ≤ i.at) × (behind i ≤ high) × Within low high is
+Within low high (i ∷ is) = (low ≤ i.at) × (insn_end i ≤ high) × Within low high is
 
 -- ---- a sweep
 
@@ -52,14 +52,14 @@ unfolding sweep
 swept_within zero at low high bytes above below = tt
 swept_within (suc n) at low high bytes above below =
     by (standing at bytes) refl
-    (λ i. swept_within n (behind i) low high (drop (length i.bytes) bytes))
+    (λ i. swept_within n (insn_end i) low high (drop (length i.bytes) bytes))
   where
     by : (o : Option Standing) → standing at bytes ≡ o
-        → ((i : Standing) → low ≤ behind i
-        → behind i + length (drop (length i.bytes) bytes) ≤ high
-        → Within low high (sweep n (behind i) (drop (length i.bytes) bytes)))
+        → ((i : Standing) → low ≤ insn_end i
+        → insn_end i + length (drop (length i.bytes) bytes) ≤ high
+        → Within low high (sweep n (insn_end i) (drop (length i.bytes) bytes)))
         → Within low high
-        (then_more o (λ i. sweep n (behind i) (drop (length i.bytes) bytes)))
+        (then_more o (λ i. sweep n (insn_end i) (drop (length i.bytes) bytes)))
     by None e more = tt
     by (Some i) e more =
         let s = stands at bytes i e in
@@ -79,7 +79,7 @@ cut low high false is w = w
 pub from_within : (low high a : ℕ) (is : List Standing) → Within low high is
     → Within low high (insns_from a is)
 from_within low high a [] w = tt
-from_within low high a (i ∷ is) w = by (nat_le (behind i) a) (from_within low high a is w.2)
+from_within low high a (i ∷ is) w = by (nat_le (insn_end i) a) (from_within low high a is w.2)
   where
     by : (b : Bool) → Within low high (insns_from a is)
         → Within low high (if b then insns_from a is else i ∷ is)
@@ -92,7 +92,7 @@ reaching_within low high g [] w = tt
 reaching_within low high g (i ∷ is) w = (
   w.0,
   w.1,
-  cut low high (nat_le g (behind i)) (reaching g is)
+  cut low high (nat_le g (insn_end i)) (reaching g is)
       (reaching_within low high g is w.2),
 )
 
@@ -108,6 +108,6 @@ pub bounds : (low high g : ℕ) (is : List Standing) → Within low high is
 bounds low high g [] w wide = absurd (omega (arith, wide))
 bounds low high g (i ∷ is) w wide = (
   w.0,
-  end_low low high i (if nat_le g (behind i) then [] else reaching g is)
+  end_low low high i (if nat_le g (insn_end i) then [] else reaching g is)
       (reaching_within low high g (i ∷ is) w),
 )

@@ -1,4 +1,4 @@
 pub mod QuietLaws
-pub mod RunLaws
+pub mod RegionLaws
 pub mod ChainLaw
 pub mod PlaceLaws

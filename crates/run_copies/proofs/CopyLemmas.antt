@@ -1,4 +1,4 @@
--- The parts of a run's copy, instruction by instruction.
+-- The parts of a region's copy, instruction by instruction.
 use Rattle.std.proofs.Common.{◌≡◌, ℕ, suc, ◌+◌, ◌<◌, ◌≤◌, ◌++◌, ◌∙◌, List, [], ◌∷◌, length, drop}
 use Rattle.std.proofs.Common.{get_or, append_assoc, length-append, Bool, true, false, refl, sym, ap}
 use Rattle.std.proofs.Common.{arith}
@@ -8,7 +8,7 @@ use Rattle.std.proofs.Math.ListN.{drop_of_length-le}
 use Rattle.std.proofs.lemmas.Grind.{flat_map-append}
 use Rattle.erim_defs.specs.declared.found.Found.{Found}
 use Rattle.erim_defs.specs.Rewriting.Standing.{Standing}
-use Rattle.erim_defs.specs.Rewriting.Sites.{Run, run_end, run_insns}
+use Rattle.erim_defs.specs.Rewriting.Sites.{Region, region_end, region_insns}
 use Rattle.erim_defs.specs.Rewriting.Copies.{Back, Part, bytes_of, copy_parts, filler, insn_parts}
 use Rattle.erim_defs.specs.Rewriting.Copies.{jump, parts_from}
 use Rattle.run_copies.specs.Spelling.{all_fit, gap_bytes}
@@ -26,7 +26,7 @@ all_append (p ∷ xs) ys =
 bytes_append : (xs ys : List Part) → bytes_of (xs ++ ys) ≡ bytes_of xs ++ bytes_of ys
 bytes_append xs ys = flat_map-append (λ (p : Part). p.bytes) xs ys
 
--- ---- the first instruction, and those behind it
+-- ---- the first instruction, and those after it
 
 -- where the copy of the next one begins
 abbrev next_at : List Found → ℕ → Standing → ℕ
@@ -99,7 +99,7 @@ next_told es back at is k d b lt =
 
 -- ---- the loop
 
--- the copies of the first k instructions stand behind the old bytes, and with the others they are
+-- the copies of the first k instructions stand after the old bytes, and with the others they are
 -- the whole
 pub record Pushed (es : List Found) (back : ℕ) (is : List Standing) (whole : List Part) (first : ℕ)
     (old : List ℕ) (k : ℕ) (bytes : List ℕ) : Type 0 where
@@ -107,8 +107,9 @@ pub record Pushed (es : List Found) (back : ℕ) (is : List Standing) (whole : L
   pub told : bytes ++ bytes_of (parts_from es back (first + length bytes) (drop k is))
       ≡ old ++ bytes_of whole
 
-pub pushed_first : (r : Run) (first : ℕ) (old : List ℕ)
-    → Pushed r.elements (run_end r) (run_insns r) (copy_parts r (first + length old)) first old 0
+pub pushed_first : (r : Region) (first : ℕ) (old : List ℕ)
+    → Pushed r.elements (region_end r) (region_insns r) (copy_parts r
+    (first + length old)) first old 0
     old
 unfolding copy_parts
 pushed_first r first old = record { fits = refl; told = refl }

@@ -110,9 +110,9 @@ unfolding split
 split_never insn below =
     ap (split_with insn) (least_none 128 (test insn) (λ k l. fails_below insn 128 k below l))
 
--- ---- behind other bytes
+-- ---- after other bytes
 
--- what stands behind the first ones, as a slice
+-- what stands after the first ones, as a slice
 tail_of : (front x y all : List ℕ) (start : ℕ) → all ≡ (front ++ x) ++ y
     → start ≡ length front → take (length all - start) (drop start all) ≡ x ++ y
 tail_of front x y all start e s =
@@ -123,7 +123,7 @@ tail_of front x y all start e s =
     in
     take_all (length all - start) (drop start all) enough ∙ behind
 
--- MOV and LEA stand behind the first ones, and it was asked whether they are quiet
+-- MOV and LEA stand after the first ones, and it was asked whether they are quiet
 pub split_asked : (insn mov lea : Insn) (d : ℕ) (front b1 b2 all : List ℕ) (start : ℕ)
     (asked b : Bool) → less d insn ≡ Some mov → lea ≡ adding d insn
     → b1 ≡ front ++ canonical_encoding mov → b2 ≡ b1 ++ canonical_encoding lea → all ≡ b2

@@ -1,4 +1,4 @@
--- How bytes are put behind others. Own.
+-- How bytes are put after others. Own.
 use Rattle.std.specs.Prelude.{ℕ, Bool, List, [], ◌∷◌, ◌++◌, ◌+◌}
 use Rattle.std.specs.Prelude.{◌-◌, take, drop, ℤ, Option, Some, None, if◌then◌else◌}
 use Rattle.std.specs.List.{list_any}

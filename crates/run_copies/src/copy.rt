@@ -1,68 +1,69 @@
-//! The copy of a run at an address.
+//! The copy of a region at an address.
 
 ghost use Rattle.std.specs.Prelude.{◌≡◌, ◌<◌, ◌^◌, IfOk, replicate};
 ghost use Rattle.erim_defs.specs.Rewriting.Layout.{candidate, if_spelled, jump_to, piece};
-ghost use Rattle.erim_defs.specs.Rewriting.Layout.{run_rest};
+ghost use Rattle.erim_defs.specs.Rewriting.Layout.{region_rest};
 
+use crate::NOP;
 use crate::jumps::jump_bytes;
 use crate::parts::push_parts;
 use erim_defs::NoMemory;
-use rewrite_sites::Run;
+use rewrite_sites::Region;
 use std::alloc::{AllocError, Global};
 use std::marker::Model;
 
-/// So many bytes 90.
+/// A given number of NOPs.
 fn pad_bytes(alloc: Global, pad: u8) -> Result<Vec<u8>, AllocError>
     ensures { IfOk result (λ bytes. bytes.items ≡ replicate pad 0x90) }
 {
-    vec![in alloc; 0x90; pad as usize]
+    vec![in alloc; NOP; pad as usize]
 }
 
-/// The copy of a run, behind some bytes 90 from an address on, with the jump to it. All of it can
-/// be spelled. Contracts see it as the definitions' copy.
+/// The copy of a region, after some NOPs from an address on, with the jump to it. All of it can be
+/// spelled. Contracts see it as the definitions' copy.
 #[derive(Drop)]
-pub struct RunCopy<'a> {
-    run: &'a Run<'a>,
+pub struct RegionCopy<'a> {
+    region: &'a Region<'a>,
     first: u64,
     pad: u8,
     bytes: Vec<u8>,
     jump: [u8; 5],
 }
 
-impl<'a> Model for RunCopy<'a> {
+impl<'a> Model for RegionCopy<'a> {
     ghost use Rattle.std.specs.Prelude.{◌≡◌, ◌<◌, ◌^◌, true};
     ghost use Rattle.erim_defs.specs.Rewriting.Layout.{Copy, candidate, is_spelled, jump_to, piece};
 
     ghost Value = { Copy };
 
-    ghost view = { λ k. candidate k.run.now k.first k.pad };
+    ghost view = { λ k. candidate k.region.now k.first k.pad };
 
-    ghost invariant = { λ k. let seen : Copy = candidate k.run.now k.first k.pad in
+    ghost invariant = { λ k. let seen : Copy = candidate k.region.now k.first k.pad in
         (k.bytes.items ≡ piece seen) × (k.jump ≡ (jump_to seen).bytes)
         × (is_spelled seen ≡ true) × (k.first < 2 ^ 62) × (k.pad < 16) };
 }
 
-impl<'a> RunCopy<'a> {
-    /// The copy of a run behind `pad` bytes 90 from an address on, where it can be spelled.
+impl<'a> RegionCopy<'a> {
+    /// The copy of a region after `pad` NOPs from an address on, where it can be spelled.
     pub fn spell(
         alloc: Global,
-        run: &'a Run<'a>,
+        region: &'a Region<'a>,
         first: u64,
         pad: u8,
-    ) -> Result<Option<RunCopy<'a>>, NoMemory>
+    ) -> Result<Option<RegionCopy<'a>>, NoMemory>
         requires first { first < 2 ^ 62 }
         requires pad { pad < 16 }
-        ensures { IfOk result (λ made. made ≡ if_spelled (candidate run.now first pad)) }
+        ensures { IfOk result (λ made. made ≡ if_spelled (candidate region.now first pad)) }
     {
         let mut bytes = pad_bytes(alloc, pad)?;
-        if !push_parts(&mut bytes, first, run)? {
+        if !push_parts(&mut bytes, first, region)? {
             return Ok(None);
         }
-        let Some(jump) = jump_bytes(run.start(), first + u64::from(pad)) else {
+        let Some(jump) = jump_bytes(region.start(), first + u64::from(pad)) else {
             return Ok(None);
         };
-        Ok(Some(RunCopy {
-            run,
+        Ok(Some(RegionCopy {
+            region,
             first,
             pad,
             bytes,
@@ -70,14 +71,14 @@ impl<'a> RunCopy<'a> {
         }))
     }
 
-    /// The run.
-    pub fn run(&self) -> &Run<'_>
-        ensures { result.now ≡ self.now.run }
+    /// The region.
+    pub fn region(&self) -> &Region<'_>
+        ensures { result.now ≡ self.now.region }
     {
-        self.run
+        self.region
     }
 
-    /// The bytes 90 and the copy.
+    /// The NOPs and the copy.
     pub fn piece(&self) -> &[u8]
         ensures { result.now ≡ piece self.now }
     {

@@ -1,4 +1,4 @@
-//! Canonical encodings, behind other bytes.
+//! Canonical encodings, after other bytes.
 
 ghost use Rattle.std.specs.Prelude.{◌≡◌, ◌≤◌, ◌++◌, OnOk, length};
 ghost use Rattle.erim_defs.specs.Encoding.Canonical.{canonical_encoding};
@@ -15,7 +15,7 @@ pub fn encoded_len(insn: &Insn) -> u8
     put_canonical(insn, &mut [0; 15])
 }
 
-/// Puts the canonical encoding of an instruction behind other bytes.
+/// Puts the canonical encoding of an instruction after other bytes.
 pub fn push_canonical(bytes: &mut Vec<u8>, insn: &Insn) -> Result<(), AllocError>
     ensures bytes { OnOk result (bytes.new.items
         ≡ bytes.old.items ++ canonical_encoding insn.now) }

@@ -1,4 +1,4 @@
-//! The copy of one instruction, behind other bytes, and what stands between it and the next.
+//! The copy of one instruction, after other bytes, and what stands between it and the next.
 
 ghost use Rattle.std.specs.Prelude.{◌≡◌, ◌<◌, ◌+◌, ◌-◌, ◌^◌, ◌++◌, All, IfOk, OnOk, true, drop};
 ghost use Rattle.std.specs.List.{list_any};
@@ -7,6 +7,7 @@ ghost use Rattle.erim_defs.specs.Rewriting.Copies.{jump_parts, rip_parts, split,
 ghost use Rattle.erim_defs.specs.Rewriting.Sites.{holds_core};
 ghost use Rattle.run_copies.specs.Spelling.{all_fit, gap_bytes, with_disp};
 
+use crate::NOP;
 use crate::encoded::{encoded_len, push_canonical};
 use crate::jumps::{is_jump, near_jump};
 use crate::offset::{near_number, offset_to};
@@ -15,14 +16,14 @@ use erim_defs::Found;
 use rewrite_sites::Instruction;
 use std::alloc::AllocError;
 
-/// The bytes behind the first `n`, or none.
+/// The bytes after the first `n`, or none.
 fn bytes_behind(bytes: &[u8], n: usize) -> &[u8]
     ensures { result.now ≡ drop n bytes.now }
 {
     bytes.split_at(n.min(bytes.len())).1
 }
 
-/// Puts a jump behind other bytes, with the offset from its new address to its old target.
+/// Puts a jump after other bytes, with the offset from its new address to its old target.
 fn push_jump(bytes: &mut Vec<u8>, at: u64, insn: &Instruction<'_>) -> Result<bool, AllocError>
     requires low { at < 2 ^ 64 - 16 }
     requires jump { is_jump insn.now.insn ≡ true }
@@ -40,7 +41,7 @@ fn push_jump(bytes: &mut Vec<u8>, at: u64, insn: &Instruction<'_>) -> Result<boo
     Ok(true)
 }
 
-/// Puts an instruction behind other bytes, with another displacement of 4 bytes.
+/// Puts an instruction after other bytes, with another displacement of 4 bytes.
 #[tactic(auto, using(crate::proofs::PartLemmas::three_behind), unfolding(erim_defs::specs::Encoding::Canonical::four_bytes))]
 fn push_with_disp(bytes: &mut Vec<u8>, z: i32, insn: &Instruction<'_>) -> Result<(), AllocError>
     ensures { OnOk result (bytes.new.items ≡ bytes.old.items ++ with_disp z insn.now) }
@@ -51,7 +52,7 @@ fn push_with_disp(bytes: &mut Vec<u8>, z: i32, insn: &Instruction<'_>) -> Result
     bytes.extend_from_slice(bytes_behind(insn.bytes(), place + 4))
 }
 
-/// Puts an instruction behind other bytes, with the displacement from its new address to what it
+/// Puts an instruction after other bytes, with the displacement from its new address to what it
 /// names from RIP.
 fn push_rip(bytes: &mut Vec<u8>, at: u64, insn: &Instruction<'_>) -> Result<bool, AllocError>
     requires { at < 2 ^ 64 - 16 }
@@ -67,7 +68,7 @@ fn push_rip(bytes: &mut Vec<u8>, at: u64, insn: &Instruction<'_>) -> Result<bool
     Ok(true)
 }
 
-/// Puts an instruction behind other bytes as it is.
+/// Puts an instruction after other bytes as it is.
 fn push_same(bytes: &mut Vec<u8>, insn: &Instruction<'_>) -> Result<bool, AllocError>
     ensures fits { IfOk result (λ fits. fits ≡ true) }
     ensures bytes { OnOk result (bytes.new.items ≡ bytes.old.items ++ insn.now.bytes) }
@@ -84,7 +85,7 @@ fn holds_element(elements: &[Found], insn: &Instruction<'_>) -> bool
     elements.iter().any(|element| insn.holds_core(element))
 }
 
-/// Puts the copy of an instruction behind other bytes, where it can be spelled at its new address.
+/// Puts the copy of an instruction after other bytes, where it can be spelled at its new address.
 #[tactic(auto, using(crate::proofs::PartLemmas::split_fits, crate::proofs::PartLemmas::split_bytes_of), unfolding(erim_defs::specs::Rewriting::Copies::insn_parts))]
 pub fn push_insn(
     bytes: &mut Vec<u8>,
@@ -115,7 +116,7 @@ fn goes_on(insn: &Instruction<'_>, element: &Found) -> bool
     requires { element.now.at < 2 ^ 47 }
     ensures { result ≡ goes_on insn.now element.now }
 {
-    insn.at() <= element.at && (element.at < insn.behind() && insn.behind() < element.at + 3)
+    insn.at() <= element.at && (element.at < insn.insn_end() && insn.insn_end() < element.at + 3)
 }
 
 /// Do those of one of some elements?
@@ -126,7 +127,7 @@ fn some_goes_on(insn: &Instruction<'_>, elements: &[Found]) -> bool
     elements.iter().any(|element| goes_on(insn, element))
 }
 
-/// Puts a byte 90 behind the copy of an instruction, where an element goes on in the next.
+/// Puts a byte 90 after the copy of an instruction, where an element goes on in the next.
 pub fn push_gap(
     bytes: &mut Vec<u8>,
     elements: &[Found],
@@ -137,7 +138,7 @@ pub fn push_gap(
         ≡ bytes.old.items ++ gap_bytes elements.now insn.now) }
 {
     if some_goes_on(insn, elements) {
-        bytes.push(0x90)?;
+        bytes.push(NOP)?;
     }
     Ok(())
 }

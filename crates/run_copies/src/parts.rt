@@ -1,4 +1,4 @@
-//! The parts of a run's copy, behind other bytes.
+//! The parts of a region's copy, after other bytes.
 
 ghost use Rattle.std.specs.Prelude.{◌≡◌, ◌<◌, ◌+◌, ◌-◌, ◌^◌, ◌++◌, ◌∷◌, [], IfOk, OnOk, true};
 ghost use Rattle.std.specs.Prelude.{length};
@@ -7,10 +7,10 @@ ghost use Rattle.run_copies.specs.Spelling.{all_fit};
 
 use crate::insns::{push_gap, push_insn};
 use crate::jumps::jump_bytes;
-use rewrite_sites::Run;
+use rewrite_sites::Region;
 use std::alloc::AllocError;
 
-/// Puts the jump back behind other bytes.
+/// Puts the jump back after other bytes.
 fn push_back(bytes: &mut Vec<u8>, at: u64, back: u64) -> Result<bool, AllocError>
     requires { at < 2 ^ 64 - 16 }
     ensures fits { IfOk result (λ fits. fits ≡ all_fit (jump Back at back back ∷ [])) }
@@ -24,18 +24,18 @@ fn push_back(bytes: &mut Vec<u8>, at: u64, back: u64) -> Result<bool, AllocError
     Ok(true)
 }
 
-/// Puts the parts of the copy of a run behind other bytes that begin at an address, where they can
-/// be spelled.
-pub fn push_parts(bytes: &mut Vec<u8>, first: u64, run: &Run<'_>) -> Result<bool, AllocError>
+/// Puts the parts of the copy of a region after other bytes that begin at an address, where they
+/// can be spelled.
+pub fn push_parts(bytes: &mut Vec<u8>, first: u64, region: &Region<'_>) -> Result<bool, AllocError>
     requires { first < 2 ^ 62 }
     ensures fits { IfOk result (λ fits. fits
-        ≡ all_fit (copy_parts run.now (first + length bytes.old.items))) }
-    ensures bytes { OnOk result (all_fit (copy_parts run.now (first + length bytes.old.items))
+        ≡ all_fit (copy_parts region.now (first + length bytes.old.items))) }
+    ensures bytes { OnOk result (all_fit (copy_parts region.now (first + length bytes.old.items))
         ≡ true → bytes.new.items ≡ bytes.old.items
-        ++ bytes_of (copy_parts run.now (first + length bytes.old.items))) }
+        ++ bytes_of (copy_parts region.now (first + length bytes.old.items))) }
 {
-    let elements = run.elements();
-    for insn in run.insns() {
+    let elements = region.elements();
+    for insn in region.insns() {
         let at = first + bytes.len() as u64;
         if !push_insn(bytes, at, elements, insn)? {
             return Ok(false);
@@ -43,5 +43,5 @@ pub fn push_parts(bytes: &mut Vec<u8>, first: u64, run: &Run<'_>) -> Result<bool
         push_gap(bytes, elements, insn)?;
     }
     let end = first + bytes.len() as u64;
-    push_back(bytes, end, run.end())
+    push_back(bytes, end, region.end())
 }

@@ -121,7 +121,7 @@ fn is_quiet(bytes: &[u8]) -> bool
     next_sequence(bytes, 0, 0).is_none()
 }
 
-/// Puts MOV and LEA by d behind other bytes, where no sequence occurs in them.
+/// Puts MOV and LEA by d after other bytes, where no sequence occurs in them.
 fn push_split_by(bytes: &mut Vec<u8>, insn: &Insn, d: u8) -> Result<bool, AllocError>
     ensures fits { IfOk result (λ fits. fits ≡ is_some (split_by insn.now d)) }
     ensures bytes { OnOk result (bytes.new.items
@@ -140,7 +140,7 @@ fn push_split_by(bytes: &mut Vec<u8>, insn: &Insn, d: u8) -> Result<bool, AllocE
     Ok(false)
 }
 
-/// Puts a MOV in two behind other bytes, by the least d from 1 to 127 for which no sequence occurs
+/// Puts a MOV in two after other bytes, by the least d from 1 to 127 for which no sequence occurs
 /// in them.
 pub fn push_split(bytes: &mut Vec<u8>, insn: &Insn) -> Result<bool, AllocError>
     ensures fits { IfOk result (λ fits. fits ≡ is_some (split insn.now)) }

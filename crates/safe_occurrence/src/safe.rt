@@ -56,12 +56,12 @@ fn fits_check(code: &[u8], place: usize, kind: SeqKind, next: u64, trust: &Trust
         (check_of trust.now kind next) ≡ result }
 {
     match kind {
-        SeqKind::Wrpkru => check_fits(code, place, &wrpkru_check(trust.compared(next))),
+        SeqKind::Wrpkru => check_fits(code, place, &wrpkru_check(trust.compared_value(next))),
         SeqKind::Xrstor => check_fits(code, place, &XRSTOR_CHECK),
     }
 }
 
-/// Is the address behind a sequence an entry, where that is enough?
+/// Is the address after a sequence an entry, where that is enough?
 fn opens_gate(kind: SeqKind, next: u64, trust: &Trust) -> bool
     ensures { result ≡ opens_gate trust.now kind next }
 {

@@ -3,7 +3,7 @@
 ghost use Rattle.std.specs.Prelude.{◌≡◌, ◌+◌, ℕ};
 ghost use Rattle.erim_defs.specs.Inspection.Code.{laid_at, has};
 
-/// The byte at a place of the code, or none behind its end.
+/// The byte at a place of the code, or none after its end.
 #[tactic(auto, using(erim_defs::proofs::CodeLemmas::laid_at_place))]
 pub fn byte_at(code: &[u8], place: usize) -> Option<u8>
     ensures { (base a : ℕ) → a ≡ base + place → laid_at base code.now a ≡ result }

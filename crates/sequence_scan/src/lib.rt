@@ -2,7 +2,7 @@
 //!
 //! `sequence_at` gives the one at a place, WRPKRU or XRSTOR, and `next_sequence` the first one from
 //! a place on; `safe_occurrence` says which are safe. They meet `occurrence_at` of `erim_defs`;
-//! bytes behind the end of the code are absent.
+//! bytes after the end of the code are absent.
 #![tactic(auto)]
 
 mod bytes;

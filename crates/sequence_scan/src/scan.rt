@@ -10,8 +10,8 @@ use crate::xrstor::xrstor_at;
 use erim_defs::Found;
 
 /// The sequence that begins at the place `place` of `code`, whose place 0 has the address `base`,
-/// and lies wholly in it, if there is one. Both kinds begin with 0F, which few places have, so it is
-/// asked first.
+/// and lies wholly in it, if there is one. Both kinds begin with 0F, which few places have, so it
+/// is asked first.
 #[tactic(auto, unfolding(erim_defs::specs::Inspection::Occurrence::occurrence_at))]
 pub fn sequence_at(code: &[u8], base: u64, place: usize) -> Option<Found>
     requires inside { place < length code.now }

@@ -7,15 +7,16 @@ use Rattle.erim_defs.specs.declared.machine.Access.{Access}
 use Rattle.erim_defs.specs.declared.machine.Access.TheVariants.{Fault}
 use Rattle.erim_defs.specs.declared.machine.Cause.TheVariants.{Unmapped}
 use Rattle.erim_defs.specs.Machine.Pages.{ByteMap, bytes_of_range}
-use Rattle.erim_defs.specs.Machine.Access.{Seen, stop, stop_at, stop_or}
+use Rattle.erim_defs.specs.Machine.Access.{Seen, stop, stop_at}
+use Rattle.erim_defs.specs.Inspection.Code.{or_else}
 use Rattle.page_store.specs.Answers.{HasBytes, byte_at}
 use Rattle.sys_calls.proofs.ReadableLemmas.{stop_next}
 
-none_first : (x y : Option Access) → stop_or x y ≡ None → x ≡ None
+none_first : (x y : Option Access) → or_else x y ≡ None → x ≡ None
 none_first None y h = refl
 none_first (Some s) y h = absurd cc
 
-none_second : (x y : Option Access) → stop_or x y ≡ None → y ≡ None
+none_second : (x y : Option Access) → or_else x y ≡ None → y ≡ None
 none_second None y h = h
 none_second (Some s) y h = absurd cc
 
@@ -26,7 +27,7 @@ unfolding stop
 readable_now seen w pkru a n i lt h =
     let first = none_first _ (stop seen w pkru (a + (i + 1)) (n - (i + 1)))
     (sym (stop_next seen w pkru a n i lt) ∙ h) in
-    ap (λ o. stop_or o None) first
+    ap (λ o. or_else o None) first
 
 -- and so are the rest
 pub readable_then : (seen : Seen) (w : Bool) (pkru a n i : ℕ) → i < n

@@ -11,7 +11,7 @@ wrote s t output (Err e) = Refusal e
 wrote s t output (Ok v) = Answer v (let c = no_change s t in record c { output = output })
 
 -- what came of clone: an error, or an answer with a new thread that has this stack
-abbrev pub made : State → Thread → ℕ → Result ℕ ℕ → CallResult
-made s t stack (Err e) = Refusal e
-made s t stack (Ok v) =
-    Answer v (let c = no_change s t in record c { made = Some (new_thread t stack) })
+abbrev pub clone_answer : State → Thread → ℕ → Result ℕ ℕ → CallResult
+clone_answer s t stack (Err e) = Refusal e
+clone_answer s t stack (Ok v) =
+    Answer v (let c = no_change s t in record c { clone = Some (new_thread t stack) })

@@ -3,7 +3,7 @@
 ghost use Rattle.std.specs.Prelude.{◌≡◌, ◌<◌, ◌∷◌, ◌++◌, [], None, IfErr, IfOk, OnErr};
 ghost use Rattle.erim_defs.specs.Machine.State.{State, with_origin};
 ghost use Rattle.erim_defs.specs.Machine.ThreadCalls.{clone_result, new_thread};
-ghost use Rattle.sys_calls.specs.Answers.{made};
+ghost use Rattle.sys_calls.specs.Answers.{clone_answer};
 
 use crate::threads::Threads;
 use erim_defs::linux::{CLONE_FLAGS, EAGAIN, EINVAL};
@@ -23,7 +23,7 @@ fn new_thread(caller: &Thread, stack: u64) -> Thread
     new
 }
 
-/// clone(2): makes a thread, and answers its number, counted from 1. `caller` is the thread behind
+/// clone(2): makes a thread, and answers its number, counted from 1. `caller` is the thread after
 /// SYSCALL. `Err` is the error number.
 #[tactic(auto, unfolding(erim_defs::specs::Machine::ThreadCalls::clone_result))]
 pub fn clone_thread(
@@ -34,7 +34,7 @@ pub fn clone_thread(
     stack: u64,
 ) -> Result<u64, u16>
     ensures answer { (s : State) → s.threads ≡ threads.old
-        → clone_result s caller.now flags stack ≡ made s caller.now stack result }
+        → clone_result s caller.now flags stack ≡ clone_answer s caller.now stack result }
     ensures threads { IfOk result (λ _. threads.new
         ≡ threads.old ++ with_origin trust.now None (new_thread caller.now stack) ∷ []) }
     ensures kept { OnErr result (threads.new ≡ threads.old) }

@@ -2,13 +2,12 @@
 
 ghost use Rattle.std.specs.Prelude.{◌≡◌, ◌+◌, ◌<◌, ◌≤◌, List, [], ◌∷◌, ◌++◌, ℕ, length, IfOk};
 ghost use Rattle.std.specs.Prelude.{vec_capacity, vec_len};
+ghost use Rattle.erim_defs.specs.declared.limits.TheConstants.{MOST_OUTPUT};
 
 use erim_defs::NoMemory;
+use erim_defs::limits::MOST_OUTPUT;
 use std::alloc::Global;
 use std::marker::Model;
-
-/// The most bytes of output.
-const OUTPUT_LIMIT: u64 = 0x10_0000;
 
 /// What a process wrote, at most 1,048,576 bytes. Contracts see it as its bytes.
 #[derive(Drop)]
@@ -21,8 +20,8 @@ impl Model for Output {
 
     ghost view = { λ output. output.written.items };
 
-    ghost invariant = { λ output. (1048576 ≤ vec_capacity output.written)
-        × (vec_len output.written ≤ 1048576) };
+    ghost invariant = { λ output. (MOST_OUTPUT ≤ vec_capacity output.written)
+        × (vec_len output.written ≤ MOST_OUTPUT) };
 }
 
 impl Output {
@@ -31,28 +30,28 @@ impl Output {
         ensures { IfOk result (λ output. output ≡ []) }
     {
         Ok(Output {
-            written: Vec::with_capacity(alloc, OUTPUT_LIMIT as usize)?,
+            written: Vec::with_capacity(alloc, MOST_OUTPUT as usize)?,
         })
     }
 
     /// What was written.
     pub fn bytes(&self) -> &[u8]
         ensures bytes { result.now ≡ self.now }
-        ensures few { length result.now ≤ 1048576 }
+        ensures few { length result.now ≤ MOST_OUTPUT }
     {
         self.written.as_slice()
     }
 
     /// How many more bytes there may be.
     pub(crate) fn room(&self) -> u64
-        ensures { result + length self.now ≡ 1048576 }
+        ensures { result + length self.now ≡ MOST_OUTPUT }
     {
-        OUTPUT_LIMIT - self.written.len() as u64
+        MOST_OUTPUT - self.written.len() as u64
     }
 
     /// Writes a byte.
     pub(crate) fn push(&mut self, byte: u8)
-        requires { length self.old < 1048576 }
+        requires { length self.old < MOST_OUTPUT }
         ensures { self.new ≡ self.old ++ byte ∷ [] }
     {
         let _ = self.written.push(byte);

@@ -7,8 +7,9 @@ ghost use Rattle.erim_defs.specs.Machine.Access.{stop, whole};
 ghost use Rattle.erim_defs.specs.Machine.Calls.{write_result};
 ghost use Rattle.erim_defs.specs.Machine.Pages.{bytes_of_range};
 ghost use Rattle.erim_defs.specs.Machine.State.{State};
-ghost use Rattle.page_store.specs.Answers.{rights_in};
+ghost use Rattle.erim_defs.specs.Machine.Access.{rights_in};
 ghost use Rattle.sys_calls.specs.Answers.{wrote};
+ghost use Rattle.erim_defs.specs.declared.limits.TheConstants.{MOST_OUTPUT};
 
 use crate::output::Output;
 use erim_defs::linux::{EBADF, EFAULT, ENOSPC};
@@ -53,7 +54,7 @@ fn byte_of<P: Pages>(pages: &mut P, pkru: u32, addr: u64) -> u8
 /// Copies bytes that are readable to the output.
 fn copy_bytes<P: Pages>(pages: &mut P, output: &mut Output, pkru: u32, buf: u64, n: u64)
     requires readable { stop (whole (rights_in (P.seen pages.old))) false pkru buf n ≡ None }
-    requires room { length output.old + n ≤ 1048576 }
+    requires room { length output.old + n ≤ MOST_OUTPUT }
     ensures output { output.new ≡ output.old ++ bytes_of_range (P.bytes pages.old) buf n }
     ensures seen { P.seen pages.new ≡ P.seen pages.old }
     ensures bytes { P.bytes pages.new ≡ P.bytes pages.old }

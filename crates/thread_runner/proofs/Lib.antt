@@ -1,5 +1,3 @@
 pub mod ReplayLemmas
-mod ReplayRows
 pub mod RunningLemmas
-pub mod TurnLemmas
-mod TurnRows
+pub mod SliceLemmas

@@ -15,22 +15,23 @@ use Rattle.erim_defs.specs.Machine.Replay.{IsComplete, IsOver, replay, replay_fr
 use Rattle.erim_defs.specs.Machine.Start.{first_state}
 use Rattle.erim_defs.specs.Machine.State.{Setup, State}
 use Rattle.erim_defs.specs.Machine.Step.{after_step_of, if_live, ready_thread, step}
-use Rattle.erim_defs.specs.Output.Journal.{AreEntries, is_entry}
-use Rattle.erim_process.specs.declared.start_fault.StartFault.{StartFault}
-use Rattle.erim_process.specs.declared.start_fault.StartFault.TheVariants.{Memory}
-use Rattle.erim_process.specs.StartFaults.{start_fault}
+use Rattle.erim_defs.specs.Output.Journal.{AreEntries, is_journal_entry}
+use Rattle.erim_defs.specs.declared.start_fault.StartFault.{StartFault}
+use Rattle.erim_defs.specs.declared.start_fault.StartFault.TheVariants.{Memory}
+use Rattle.erim_defs.specs.Machine.StartFaults.{start_fault}
 use Rattle.erim_process.specs.ProcessValue.{ProcessValue, state_of}
-use Rattle.erim_process.specs.StepFacts.{answer}
-use Rattle.erim_process.specs.declared.stepped.Stepped.{Stepped}
-use Rattle.erim_process.specs.declared.stepped.Stepped.TheVariants.{Made, Ended, Spent}
-use Rattle.erim_process.specs.declared.stepped.Stepped.TheVariants as answers
-use Rattle.thread_runner.specs.declared.replays.ReplayFault.{ReplayFault}
-use Rattle.thread_runner.specs.declared.replays.ReplayFault.TheVariants.{Start, PastEnd, PastBudget}
-use Rattle.thread_runner.specs.declared.replays.ReplayFault.TheVariants.{NotLive, Unfinished}
+use Rattle.erim_defs.specs.Machine.StepAnswers.{step_answer}
+use Rattle.erim_defs.specs.declared.stepped.Stepped.{Stepped}
+use Rattle.erim_defs.specs.declared.stepped.Stepped.TheVariants.{Made, Ended, Spent}
+use Rattle.erim_defs.specs.declared.stepped.Stepped.TheVariants as answers
+use Rattle.erim_defs.specs.declared.replay_fault.ReplayFault.{ReplayFault}
+use Rattle.erim_defs.specs.declared.replay_fault.ReplayFault.TheVariants.{Start, PastEnd}
+use Rattle.erim_defs.specs.declared.replay_fault.ReplayFault.TheVariants.{PastBudget}
+use Rattle.erim_defs.specs.declared.replay_fault.ReplayFault.TheVariants.{NotLive, Unfinished}
 use Rattle.thread_runner.specs.Running.{IsRunning}
-use Rattle.thread_runner.specs.Replays.{FirstLaw, UnbrokenLaw, entries_fault, fault_index}
-use Rattle.thread_runner.specs.Replays.{fault_of_answer, is_over, one_by_one, replay_fault}
-use Rattle.thread_runner.specs.Replays.{single_steps, steps_fault}
+use Rattle.erim_defs.specs.Machine.ReplayFaults.{FirstLaw, UnbrokenLaw, entries_fault, fault_index}
+use Rattle.erim_defs.specs.Machine.ReplayFaults.{fault_of_answer, is_over, one_by_one, replay_fault}
+use Rattle.erim_defs.specs.Machine.ReplayFaults.{single_steps, steps_fault}
 
 -- ---- steps
 
@@ -51,13 +52,13 @@ unready_at t s over = by s.end
     by None = rw (le-ltb s.steps s.setup.budget over) refl
     by (Some end) = refl
 
-step_goes : (index t : ℕ) (s : State) → Goes (fault_of_answer index (answer s t)) (step t s)
+step_goes : (index t : ℕ) (s : State) → Goes (fault_of_answer index (step_answer s t)) (step t s)
 unfolding step
 step_goes index t s = by s.end refl
   where
     live : (o : Option Thread) → s.end ≡ None → s.steps < s.setup.budget
         → if_live (slice_get s.threads t) ≡ o
-        → Goes (fault_of_answer index (answer s t)) (step t s)
+        → Goes (fault_of_answer index (step_answer s t)) (step t s)
     live None none low e = inr (
       NotLive index,
       rw (none, lt-leb s.setup.budget s.steps low, e) refl,
@@ -70,7 +71,7 @@ step_goes index t s = by s.end refl
     )
 
     by : (o : Option End) → s.end ≡ o
-        → Goes (fault_of_answer index (answer s t)) (step t s)
+        → Goes (fault_of_answer index (step_answer s t)) (step t s)
     by (Some end) e = inr (PastEnd index, rw e refl, rw e refl)
     by None e = elim (cases_lt s.steps s.setup.budget) [
       | inl low ↦ live (if_live (slice_get s.threads t)) e low refl
@@ -92,7 +93,8 @@ pub steps_go : (index t n : ℕ) (s : State) → Goes (steps_fault index t n s) 
 unfolding steps_fault steps_of
 steps_go index t zero s = inl (s, refl, refl)
 steps_go index t (suc n) s =
-    goes_then (fault_of_answer index (answer s t)) (step t s) (steps_fault index t n) (steps_of t n)
+    goes_then (fault_of_answer index (step_answer s t)) (step t s) (steps_fault index t n)
+    (steps_of t n)
     (step_goes index t s) (steps_go index t n)
 
 fault_same : (f g : ReplayFault) → Some f ≡ Some g → f ≡ g
@@ -104,7 +106,7 @@ steps_named : (index t n : ℕ) (s : State) (fault : ReplayFault)
 unfolding steps_fault
 steps_named index t zero s fault h = absurd cc
 steps_named index t (suc n) s fault h =
-    by (answer s t) (step t s) (steps_fault index t n) (λ x. steps_named index t n x fault) h
+    by (step_answer s t) (step t s) (steps_fault index t n) (λ x. steps_named index t n x fault) h
   where
     by : (a : Stepped) (after : Option State) (f : State → Option ReplayFault)
         → ((x : State) → f x ≡ Some fault → fault_index fault ≡ Some index)
@@ -187,7 +189,7 @@ unbroken_ends index (entry ∷ entries) s last h over =
         absurd (let none = replay_none entries in
         let k : replay_from None entries ≡ Some last = rw w.2 at e in cc)
 
--- the entries behind one
+-- the entries after one
 replay_on : (s after : State) (entry : Entry) (rest : List Entry)
     → steps_of entry.thread entry.count s ≡ Some after
     → replay_from (Some s) (entry ∷ rest) ≡ replay_from (Some after) rest
@@ -253,7 +255,8 @@ named_fault index (entry ∷ entries) s fault named h i =
 
 -- ---- the laws
 
-start_none : (o : Option StartFault) (f : Option ReplayFault) → or_else (option_map Start o) f ≡ None
+start_none : (o : Option StartFault) (f : Option ReplayFault)
+    → or_else (option_map Start o) f ≡ None
     → (o ≡ None) × (f ≡ None)
 start_none None f h = (refl, h)
 start_none (Some fault) f h = absurd cc
@@ -302,7 +305,7 @@ pub record IsLeft (index : ℕ) (entry : Entry) (old now : ProcessValue) (n : �
 pub all_left : (index : ℕ) (entry : Entry) (p : ProcessValue) → IsLeft index entry p p entry.count
 all_left index entry p = record { setup = refl; fault = refl; run = refl; journal = refl }
 
-fault_on : (index t n : ℕ) (s after : State) → answer s t ≡ Made → step t s ≡ Some after
+fault_on : (index t n : ℕ) (s after : State) → step_answer s t ≡ Made → step t s ≡ Some after
     → steps_fault index t n after ≡ steps_fault index t (suc n) s
 unfolding steps_fault
 fault_on index t n s after made e = rw (made, e) refl
@@ -315,7 +318,7 @@ steps_on t n s after e = rw e refl
 -- one step more
 pub left_on : (index : ℕ) (entry : Entry) (old now new : ProcessValue) (n left : ℕ)
     → IsLeft index entry old now left → left ≡ suc n
-    → answer (state_of now) entry.thread ≡ Made
+    → step_answer (state_of now) entry.thread ≡ Made
     → step entry.thread (state_of now) ≡ Some (state_of new)
     → new ≡ record { setup = now.setup; journal = now.journal ++ record entry { count = 1 } ∷ [] }
     → IsLeft index entry old new n
@@ -333,7 +336,7 @@ left_on index entry old now new n left h more made e added =
 -- the next step can't be made
 pub left_broken : (index : ℕ) (entry : Entry) (old now : ProcessValue) (left : ℕ)
     (fault : ReplayFault) → IsLeft index entry old now left → 0 < left
-    → fault_of_answer index (answer (state_of now) entry.thread) ≡ Some fault
+    → fault_of_answer index (step_answer (state_of now) entry.thread) ≡ Some fault
     → steps_fault index entry.thread entry.count (state_of old) ≡ Some fault
 unfolding steps_fault
 left_broken index entry old now zero fault h some e = absurd (omega arith)
@@ -439,7 +442,7 @@ done_unfinished entries old now h running =
 
 -- an entry of a list of entries
 pub entry_at : (entries : List Entry) (index : ℕ) (d : Entry) → AreEntries entries
-    → index < length entries → is_entry (get_or entries index d) ≡ true
+    → index < length entries → is_journal_entry (get_or entries index d) ≡ true
 entry_at [] index d are low = absurd (omega arith)
 entry_at (entry ∷ entries) zero d are low = are.0
 entry_at (entry ∷ entries) (suc index) d are low = entry_at entries index d are.1 (omega arith)

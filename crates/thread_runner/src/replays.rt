@@ -2,46 +2,27 @@
 
 ghost use Rattle.std.specs.Prelude.{◌≡◌, ◌≤◌, ◌++◌, ◌⊎◌, None, Some, IfOk, MatchResult, OnOk};
 ghost use Rattle.std.specs.Prelude.{length, true};
-ghost use Rattle.erim_defs.specs.Machine.Replay.{IsOver, replay, replay_from, steps_of};
-ghost use Rattle.erim_defs.specs.Output.Journal.{AreEntries, IsJournal, is_entry};
+ghost use Rattle.erim_defs.specs.Machine.Isolation.{IsKept};
+ghost use Rattle.erim_defs.specs.Machine.Replay.{IsComplete, IsOver, replay, replay_from};
+ghost use Rattle.erim_defs.specs.Machine.Replay.{steps_of};
+ghost use Rattle.erim_defs.specs.Output.Journal.{AreEntries, IsJournal, is_journal_entry};
 ghost use Rattle.erim_process.specs.ProcessInvariant.{setup_of};
 ghost use Rattle.erim_process.specs.ProcessValue.{state_of};
-ghost use Rattle.thread_runner.specs.declared.replays.ReplayFault.TheVariants.{Start};
-ghost use Rattle.thread_runner.specs.Replays.{FirstLaw, UnbrokenLaw, entries_fault};
-ghost use Rattle.thread_runner.specs.Replays.{one_by_one, replay_fault, single_steps, steps_fault};
+ghost use Rattle.erim_defs.specs.declared.replay_fault.ReplayFault.TheVariants.{Start};
+ghost use Rattle.erim_defs.specs.Machine.ReplayFaults.{FirstLaw, UnbrokenLaw, entries_fault};
+ghost use Rattle.erim_defs.specs.Machine.ReplayFaults.{one_by_one, replay_fault, single_steps};
+ghost use Rattle.erim_defs.specs.Machine.ReplayFaults.{steps_fault};
+ghost use Rattle.erim_defs.specs.declared.limits.TheConstants.{MOST_STEPS};
 
-use crate::runner::is_running;
-use erim_defs::Entry;
-use erim_process::{Process, Setup, StartFault, Stepped};
+use crate::runner::{is_running, note_kept};
+use erim_defs::{Entry, ReplayFault, Stepped};
+use erim_process::{Process, Setup, StartFault};
 use journal_bytes::Journal;
 use std::alloc::Global;
 
-/// What breaks a replay. Entries are counted from 0.
-#[derive(Clone, Copy)]
-pub enum ReplayFault {
-    /// The process can't start.
-    Start(StartFault),
-    /// A step of this entry comes behind the process' end.
-    PastEnd { index: u32 },
-    /// One comes when the budget is spent.
-    PastBudget { index: u32 },
-    /// One is of a thread that isn't there, or has ended.
-    NotLive { index: u32 },
-    /// All steps were made, and the process could go on.
-    Unfinished,
-}
-
-impl From<StartFault> for ReplayFault {
-    ghost from_gives = { λ start fault. fault ≡ Start start };
-
-    fn from(fault: StartFault) -> ReplayFault {
-        ReplayFault::Start(fault)
-    }
-}
-
 /// Makes the steps of the entry at this index.
 fn make_steps(process: &mut Process, index: u32, entry: &Entry) -> Result<(), ReplayFault>
-    requires { is_entry entry.now ≡ true }
+    requires { is_journal_entry entry.now ≡ true }
     ensures exact { MatchResult result
         (λ _. steps_fault index entry.now.thread entry.now.count (state_of process.old) ≡ None)
         (λ fault. steps_fault index entry.now.thread entry.now.count (state_of process.old)
@@ -66,7 +47,7 @@ fn make_steps(process: &mut Process, index: u32, entry: &Entry) -> Result<(), Re
 /// Makes the entries' steps, and looks whether the process could go on.
 fn make_entries(process: &mut Process, entries: &[Entry]) -> Result<(), ReplayFault>
     requires form { AreEntries entries.now }
-    requires few { length entries.now ≤ 4194304 }
+    requires few { length entries.now ≤ MOST_STEPS }
     ensures exact { MatchResult result
         (λ _. entries_fault 0 entries.now (state_of process.old) ≡ None)
         (λ fault. entries_fault 0 entries.now (state_of process.old) ≡ Some fault) }
@@ -89,7 +70,7 @@ fn make_entries(process: &mut Process, entries: &[Entry]) -> Result<(), ReplayFa
 /// As `replay`, of a journal's entries.
 fn replay_entries(alloc: Global, setup: Setup, entries: &[Entry]) -> Result<Process, ReplayFault>
     requires form { AreEntries entries.now }
-    requires few { length entries.now ≤ 4194304 }
+    requires few { length entries.now ≤ MOST_STEPS }
     ensures exact { MatchResult result (λ _. replay_fault (setup_of setup) entries.now ≡ None)
         (λ fault. (fault ≡ ReplayFault.Start StartFault.Memory)
         ⊎ (replay_fault (setup_of setup) entries.now ≡ Some fault)) }
@@ -97,19 +78,22 @@ fn replay_entries(alloc: Global, setup: Setup, entries: &[Entry]) -> Result<Proc
     ensures run { IfOk result (λ process.
         replay (setup_of setup) entries.now ≡ Some (state_of process)) }
     ensures over { IfOk result (λ process. IsOver (state_of process)) }
+    ensures complete { IfOk result (λ _. IsComplete (setup_of setup) entries.now) }
+    ensures kept { IfOk result (λ process. IsKept (state_of process)) }
     ensures journal { IfOk result (λ process. process.journal ≡ one_by_one entries.now) }
 {
     let mut process = Process::start(alloc, setup)?;
     make_entries(&mut process, entries)?;
+    note_kept(&process);
     Ok(process)
 }
 
 /// Starts a process and makes the steps of a journal again, each under its entry's worker and
 /// thread. The budget and the frames are those of the setup.
 ///
-/// Fails with `Start` of what keeps the process from starting, want of memory among it; with
-/// `PastEnd`, `PastBudget` or `NotLive` at the first step that can't be made; and with
-/// `Unfinished` where all were made and the process could go on.
+/// Fails with `Start` of what keeps the process from starting, out of memory among it; with
+/// `PastEnd`, `PastBudget` or `NotLive` at the first step that can't be made; and with `Unfinished`
+/// where all were made and the process could go on.
 pub fn replay(alloc: Global, setup: Setup, journal: &Journal) -> Result<Process, ReplayFault>
     requires { IsJournal journal.now }
     ensures exact { MatchResult result
@@ -120,6 +104,10 @@ pub fn replay(alloc: Global, setup: Setup, journal: &Journal) -> Result<Process,
     ensures run { IfOk result (λ process.
         replay (setup_of setup) journal.now.entries ≡ Some (state_of process)) }
     ensures over { IfOk result (λ process. IsOver (state_of process)) }
+
+    // The journal is a complete replay, and the state that it leads to keeps the isolation invariant.
+    ensures complete { IfOk result (λ _. IsComplete (setup_of setup) journal.now.entries) }
+    ensures kept { IfOk result (λ process. IsKept (state_of process)) }
     ensures journal { IfOk result (λ process.
         process.journal ≡ one_by_one journal.now.entries) }
 {

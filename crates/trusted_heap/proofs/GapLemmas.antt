@@ -7,11 +7,11 @@ use Rattle.std.proofs.lemmas.Bool.{or_right, cases_Bool, cases_lt, lt-ltb, le-lt
 use Rattle.std.proofs.lemmas.List.{drop_all}
 use Rattle.erim_defs.specs.declared.trust.Span.{Span}
 use Rattle.erim_defs.specs.Machine.HeapCalls.{block_at, meets}
-use Rattle.trusted_heap.specs.Blocks.{AreApart, EndsLow, IsLowestGap, unit_behind}
+use Rattle.trusted_heap.specs.Blocks.{AreApart, EndsLow, IsLowestGap, unit_after}
 
--- a block that is met sends the place behind it
+-- a block that is met sends the place after it
 abbrev pub past : Span → ℕ → ℕ → ℕ
-past b unit count = cond (meets (block_at unit count) b) (unit_behind b) unit
+past b unit count = cond (meets (block_at unit count) b) (unit_after b) unit
 
 unfoldable pub walked : List Span → ℕ → ℕ → ℕ
 walked [] unit count = unit
@@ -41,7 +41,7 @@ begins_behind : (b : Span) (u c : ℕ) → 16 * u + 16 * c ≤ b.start
     → meets (block_at u c) b ≡ false
 begins_behind b u c l = no_second _ _ (le-ltb b.start (16 * u + 16 * c) l)
 
-past_met : (b : Span) (u c : ℕ) → meets (block_at u c) b ≡ true → past b u c ≡ unit_behind b
+past_met : (b : Span) (u c : ℕ) → meets (block_at u c) b ≡ true → past b u c ≡ unit_after b
 past_met b u c h = rw h refl
 
 past_free : (b : Span) (u c : ℕ) → meets (block_at u c) b ≡ false → past b u c ≡ u
@@ -130,7 +130,7 @@ walked_lowest bs u c r = record {
 
 -- ---- as a loop walks
 
--- what stands behind the end of a list
+-- what stands after the end of a list
 abbrev pub no_span : Span
 no_span = record { start = 0; length = 0 }
 
@@ -140,7 +140,7 @@ unfolding walked
 walk_next bs i u c l = rw (add-one, drop-cons bs i no_span l) refl
 
 pub walk_past : (bs : List Span) (i u c v end : ℕ) → i < length bs
-    → meets (block_at u c) (get_or bs i no_span) ≡ true → v ≡ unit_behind (get_or bs i no_span)
+    → meets (block_at u c) (get_or bs i no_span) ≡ true → v ≡ unit_after (get_or bs i no_span)
     → walked (drop i bs) u c ≡ end → walked (drop (i + 1) bs) v c ≡ end
 walk_past bs i u c v end l t e h =
     ap (λ p. walked (drop (i + 1) bs) p c) (e ∙ sym (past_met (get_or bs i no_span) u c t))

@@ -9,12 +9,12 @@ use Rattle.erim_defs.specs.Machine.HeapCalls.{block_at, lies_within, meets}
 abbrev pub EndsLow : Span → Type 0
 EndsLow span = span.start + span.length ≤ 2 ^ 47
 
--- the first unit behind it
-abbrev pub unit_behind : Span → ℕ
-unit_behind span = (span.start + span.length + 15) / 16
+-- the first unit after it
+abbrev pub unit_after : Span → ℕ
+unit_after span = (span.start + span.length + 15) / 16
 
--- each has a byte, ends in user memory, and begins where the one before it ends, or behind that;
--- the first at this address or above
+-- each has a byte, ends in user memory, and begins where the one before it ends, or after that; the
+-- first at this address or above
 unfoldable pub AreApart : ℕ → List Span → Type 0
 AreApart least [] = Unit {0}
 AreApart least (b ∷ bs) =

@@ -4,28 +4,28 @@ ghost use Rattle.std.specs.Prelude.{◌≡◌, ◌+◌, ◌<◌, ◌≤◌, ◌^
 ghost use Rattle.std.specs.List.{All};
 ghost use Rattle.erim_defs.specs.Machine.HeapCalls.{block_at, first_fit, meets};
 ghost use Rattle.trusted_heap.specs.Blocks.{AreApart, EndsLow, IsLowestGap, sooner};
-ghost use Rattle.trusted_heap.specs.Blocks.{unit_behind};
+ghost use Rattle.trusted_heap.specs.Blocks.{unit_after};
 
 use erim_defs::Span;
 use erim_defs::limits::BLOCK_UNIT;
 
-/// The first unit behind a range.
-fn unit_behind(span: &Span) -> u64
+/// The first unit after a range.
+fn unit_after(span: &Span) -> u64
     requires { EndsLow span.now }
-    ensures behind { result ≡ unit_behind span.now }
+    ensures behind { result ≡ unit_after span.now }
     ensures low { result ≤ 2 ^ 43 }
 {
     (span.start + span.length).div_ceil(BLOCK_UNIT)
 }
 
-/// Does a block of so many units from one on meet a range?
+/// Does a block of a given number of units from one on meet a range?
 fn meets(span: &Span, unit: u64, count: u64) -> bool
     requires low { EndsLow span.now }
     requires unit { unit ≤ 2 ^ 43 }
     requires count { count ≤ 2 ^ 60 }
     ensures { result ≡ meets (block_at unit count) span.now }
 {
-    unit < unit_behind(span) && span.start / BLOCK_UNIT < unit + count
+    unit < unit_after(span) && span.start / BLOCK_UNIT < unit + count
 }
 
 /// The lowest unit from one on where so many lie between the blocks.
@@ -40,7 +40,7 @@ fn lowest_gap(blocks: &[Span], from: u64, count: u64) -> u64
     let mut unit = from;
     for block in blocks {
         if meets(block, unit, count) {
-            unit = unit_behind(block);
+            unit = unit_after(block);
         }
     }
     unit

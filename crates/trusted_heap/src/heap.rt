@@ -97,8 +97,9 @@ impl Heap {
         self.blocks.retain(|block| block.start != addr);
     }
 
-    /// talloc: makes a block of so many bytes where it fits at the lowest address, and answers
-    /// where it begins. `opened` is whether the caller opens domain 1. `Err` is the error number.
+    /// talloc: makes a block of a given number of bytes where it fits at the lowest address, and
+    /// answers where it begins. `opened` is whether the caller opens domain 1. `Err` is the error
+    /// number.
     pub fn talloc(&mut self, opened: bool, len: u64) -> Result<u64, u16>
         ensures answer { (s : State) (t : Thread) → image_heaps s.setup.image ≡ self.old.heaps
             → s.blocks ≡ self.old.blocks → opens_domain (trust_of s) t.pkru 1 ≡ opened

@@ -5,7 +5,7 @@ use Rattle.std.specs.Int.{Width, w64, w128, cast_signed}
 use Rattle.std.proofs.lemmas.Int.{to_z-of_z, fits_signed_mul}
 use Rattle.erim_defs.specs.declared.machine.Flags.{Flags}
 use Rattle.erim_defs.specs.declared.machine.Outcome.{Outcome}
-use Rattle.erim_defs.specs.Machine.Alu.{imul, is_past, wrapped}
+use Rattle.erim_defs.specs.Machine.Alu.{imul, is_past_width, wrap}
 
 size_of_operand : (z : ℤ) → FitsSigned w64 z → unsigned_abs z ≤ 2 ^ 63
 size_of_operand (pos n) f = omega (arith, f.sfits)
@@ -31,7 +31,7 @@ held_product x y f g =
 -- the outcome of IMUL, from its operands' signed numbers x and y
 pub outcome_of_product : (w : Width) (a b r : ℕ) (x y : ℤ) (past : Bool) (flags : Flags)
     → x ≡ cast_signed w a → FitsSigned w64 x → y ≡ cast_signed w b → FitsSigned w64 y
-    → r ≡ wrapped w (held (held x *ℤ held y)) → past ≡ is_past w (held (held x *ℤ held y))
+    → r ≡ wrap w (held (held x *ℤ held y)) → past ≡ is_past_width w (held (held x *ℤ held y))
     → (let o : Outcome = record { value = r; flags = record flags { cf = past; of = past } } in o)
     ≡ imul w a b flags
 unfolding imul

@@ -6,11 +6,11 @@ ghost use Rattle.erim_defs.specs.Machine.Alu.{difference_of, by_bits, alu, imul,
 ghost use Rattle.erim_defs.specs.Machine.Alu.{unary};
 ghost use Rattle.erim_defs.specs.Machine.Registers.{int_width};
 
-use crate::width::{is_negative, is_past, modulus, signed, truncated, wrapped};
+use crate::width::{is_negative, is_past_width, modulus, signed_value, truncate, wrap};
 use erim_defs::{AluOp, Flags, Outcome, UnaryOp, Width};
 
 /// ZF, SF and PF as a result sets them, beside its carry and overflow. PF looks at the low byte.
-pub(crate) fn flagged(w: Width, value: u64, carry: bool, overflow: bool) -> Flags
+pub(crate) fn with_flags(w: Width, value: u64, carry: bool, overflow: bool) -> Flags
     ensures { result ≡ flags_of_result (int_width w) value carry overflow }
 {
     Flags {
@@ -37,11 +37,14 @@ fn sum(w: Width, a: u64, b: u64, carry: u8) -> Outcome
     ensures fits { result.value < 2 ^ bits_of (int_width w) }
 {
     let whole = u128::from(a) + u128::from(b) + u128::from(carry);
-    let value = truncated(w, whole);
-    let overflow = is_past(w, signed(w, a) + signed(w, b) + i128::from(carry));
+    let value = truncate(w, whole);
+    let overflow = is_past_width(
+        w,
+        signed_value(w, a) + signed_value(w, b) + i128::from(carry),
+    );
     Outcome {
         value,
-        flags: flagged(w, value, whole >= modulus(w), overflow),
+        flags: with_flags(w, value, whole >= modulus(w), overflow),
     }
 }
 
@@ -54,12 +57,15 @@ fn difference(w: Width, a: u64, b: u64, borrow: u8) -> Outcome
 {
     let bound = modulus(w);
     let whole = u128::from(a) + (bound - u128::from(b)) + (bound - u128::from(borrow));
-    let value = truncated(w, whole);
+    let value = truncate(w, whole);
     let carry = u128::from(a) < u128::from(b) + u128::from(borrow);
-    let overflow = is_past(w, signed(w, a) - signed(w, b) - i128::from(borrow));
+    let overflow = is_past_width(
+        w,
+        signed_value(w, a) - signed_value(w, b) - i128::from(borrow),
+    );
     Outcome {
         value,
-        flags: flagged(w, value, carry, overflow),
+        flags: with_flags(w, value, carry, overflow),
     }
 }
 
@@ -69,7 +75,7 @@ fn by_bits(w: Width, value: u64) -> Outcome
 {
     Outcome {
         value,
-        flags: flagged(w, value, false, false),
+        flags: with_flags(w, value, false, false),
     }
 }
 
@@ -104,10 +110,10 @@ pub fn imul(w: Width, a: u64, b: u64, flags: Flags) -> Outcome
     ensures outcome { result ≡ imul (int_width w) a b flags }
     ensures fits { result.value < 2 ^ bits_of (int_width w) }
 {
-    let product = signed(w, a) * signed(w, b);
-    let past = is_past(w, product);
+    let product = signed_value(w, a) * signed_value(w, b);
+    let past = is_past_width(w, product);
     Outcome {
-        value: wrapped(w, product),
+        value: wrap(w, product),
         flags: Flags {
             cf: past,
             of: past,
@@ -138,7 +144,7 @@ pub fn unary(op: UnaryOp, w: Width, a: u64, flags: Flags) -> Outcome
 {
     match op {
         UnaryOp::Not => Outcome {
-            value: truncated(w, modulus(w) - 1 - u128::from(a)),
+            value: truncate(w, modulus(w) - 1 - u128::from(a)),
             flags,
         },
         UnaryOp::Neg => difference(w, 0, a, 0),

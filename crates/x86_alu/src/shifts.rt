@@ -3,12 +3,13 @@
 ghost use Rattle.std.specs.Prelude.{◌≡◌, ◌^◌, ◌<◌, ◌≤◌};
 ghost use Rattle.std.specs.Int.{cast_signed};
 ghost use Rattle.erim_defs.specs.Bits.{has_bit};
-ghost use Rattle.erim_defs.specs.Machine.Alu.{bits_of, differ, shift_count, shifted, signed_bit};
+ghost use Rattle.erim_defs.specs.Machine.Alu.{bits_of, differ, shift_count, shift_result};
+ghost use Rattle.erim_defs.specs.Machine.Alu.{signed_bit};
 ghost use Rattle.erim_defs.specs.Machine.Alu.{shift_carry, shift_overflow, shift_by, shift, bt};
 ghost use Rattle.erim_defs.specs.Machine.Registers.{int_width};
 
-use crate::arithmetic::flagged;
-use crate::width::{bits, is_negative, signed, truncated, wrapped};
+use crate::arithmetic::with_flags;
+use crate::width::{bits, is_negative, signed_value, truncate, wrap};
 use erim_defs::{Flags, Outcome, ShiftOp, Width};
 
 /// Is bit `k` of a number set?
@@ -38,16 +39,16 @@ fn shift_count(w: Width, n: u8) -> u32
 }
 
 /// The operand shifted. SAR rounds down.
-fn shifted(op: ShiftOp, w: Width, a: u64, n: u32) -> u64
+fn shift_result(op: ShiftOp, w: Width, a: u64, n: u32) -> u64
     requires a { a < 2 ^ bits_of (int_width w) }
     requires n { n < 64 }
-    ensures value { result ≡ shifted op (int_width w) a n }
+    ensures value { result ≡ shift_result op (int_width w) a n }
     ensures fits { result < 2 ^ bits_of (int_width w) }
 {
     match op {
-        ShiftOp::Shl => truncated(w, u128::from(a) << n),
+        ShiftOp::Shl => truncate(w, u128::from(a) << n),
         ShiftOp::Shr => a >> n,
-        ShiftOp::Sar => wrapped(w, signed(w, a) >> n),
+        ShiftOp::Sar => wrap(w, signed_value(w, a) >> n),
     }
 }
 
@@ -61,7 +62,7 @@ fn shift_carry(op: ShiftOp, w: Width, a: u64, n: u32, cf: bool) -> bool
     match op {
         ShiftOp::Shl if n < bits(w) => has_bit(a, bits(w) - n),
         ShiftOp::Shr if n < bits(w) => has_bit(a, n - 1),
-        ShiftOp::Sar => signed_bit(signed(w, a), n - 1),
+        ShiftOp::Sar => signed_bit(signed_value(w, a), n - 1),
         _ => cf,
     }
 }
@@ -85,7 +86,7 @@ fn shift_by(op: ShiftOp, w: Width, a: u64, n: u32, flags: Flags) -> Outcome
     ensures outcome { result ≡ shift_by op (int_width w) a n flags }
     ensures fits { result.value < 2 ^ bits_of (int_width w) }
 {
-    let value = shifted(op, w, a, n);
+    let value = shift_result(op, w, a, n);
     let carry = shift_carry(op, w, a, n, flags.cf);
     let overflow = if n == 1 {
         shift_overflow(op, w, a, value, carry)
@@ -94,7 +95,7 @@ fn shift_by(op: ShiftOp, w: Width, a: u64, n: u32, flags: Flags) -> Outcome
     };
     Outcome {
         value,
-        flags: flagged(w, value, carry, overflow),
+        flags: with_flags(w, value, carry, overflow),
     }
 }
 

@@ -2,7 +2,7 @@
 
 ghost use Rattle.std.specs.Prelude.{◌≡◌, ◌^◌, ◌%◌, ◌<◌, FitsSigned};
 ghost use Rattle.std.specs.Int.{cast_signed, w64};
-ghost use Rattle.erim_defs.specs.Machine.Alu.{bits_of, is_negative, is_past, wrapped};
+ghost use Rattle.erim_defs.specs.Machine.Alu.{bits_of, is_negative, is_past_width, wrap};
 ghost use Rattle.erim_defs.specs.Machine.Registers.{int_width};
 
 use erim_defs::Width;
@@ -30,7 +30,7 @@ pub(crate) fn modulus(w: Width) -> u128
 }
 
 /// The low bits of a number, as many as the width has.
-pub(crate) fn truncated(w: Width, x: u128) -> u64
+pub(crate) fn truncate(w: Width, x: u128) -> u64
     ensures { result ≡ x % 2 ^ bits_of (int_width w) }
 {
     match w {
@@ -52,7 +52,7 @@ pub(crate) fn is_negative(w: Width, x: u64) -> bool
 }
 
 /// An operand as a signed number, in two's complement.
-pub(crate) fn signed(w: Width, x: u64) -> i128
+pub(crate) fn signed_value(w: Width, x: u64) -> i128
     requires { x < 2 ^ bits_of (int_width w) }
     ensures value { result ≡ cast_signed (int_width w) x }
     ensures fits { FitsSigned w64 result }
@@ -65,16 +65,16 @@ pub(crate) fn signed(w: Width, x: u64) -> i128
 }
 
 /// Does a signed number not fit the width?
-pub(crate) fn is_past(w: Width, z: i128) -> bool
-    ensures { result ≡ is_past (int_width w) z }
+pub(crate) fn is_past_width(w: Width, z: i128) -> bool
+    ensures { result ≡ is_past_width (int_width w) z }
 {
     let half = modulus(w).cast_signed() / 2;
     z < -half || z >= half
 }
 
 /// What the width holds of a signed number.
-pub(crate) fn wrapped(w: Width, z: i128) -> u64
-    ensures { result ≡ wrapped (int_width w) z }
+pub(crate) fn wrap(w: Width, z: i128) -> u64
+    ensures { result ≡ wrap (int_width w) z }
 {
-    truncated(w, z.cast_unsigned())
+    truncate(w, z.cast_unsigned())
 }

@@ -19,10 +19,10 @@ use Rattle.erim_defs.specs.Encoding.Grammar.{at_line, InsnAndSizes, HasFormat, E
 use Rattle.erim_defs.specs.Encoding.Grammar.{rex_bytes, lead_of, Body, Rest, After, Opcode, Escaped}
 use Rattle.erim_defs.specs.Encoding.Grammar.{admits}
 use Rattle.erim_defs.specs.Encoding.Decoding.{front_at}
-use Rattle.erim_defs.proofs.Exact.{Exact}
+use Rattle.encoding_laws.proofs.Exact.{Exact}
 use Rattle.erim_defs.specs.Encoding.Decoding.{IsWindow}
-use Rattle.erim_defs.proofs.EncodingLemmas.{format_exact, found_short, found_long, found_none}
-use Rattle.erim_defs.proofs.EncodingLemmas.{decodes_again}
+use Rattle.encoding_laws.proofs.EncodingLemmas.{format_exact, found_short, found_long, found_none}
+use Rattle.encoding_laws.proofs.EncodingLemmas.{decodes_again}
 
 -- ---- the sizes of the parts
 

@@ -1,3 +1,3 @@
 pub mod Gives
-pub mod Layout
+pub mod PartPlaces
 pub mod Stands

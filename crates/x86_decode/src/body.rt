@@ -5,7 +5,7 @@ ghost use Rattle.erim_defs.specs.Encoding.OpcodeTable.{table_lines, lookup};
 ghost use Rattle.erim_defs.specs.Encoding.Grammar.{admits, fields_of};
 ghost use Rattle.erim_defs.specs.Encoding.Decoding.{row_at, modrm_follows, sooner_stop};
 ghost use Rattle.erim_defs.specs.Encoding.Decoding.{operand_len, stop_of, modrm_stop};
-ghost use Rattle.erim_defs.specs.Encoding.Decoding.{without_modrm_at, behind_modrm_at, modrm_at};
+ghost use Rattle.erim_defs.specs.Encoding.Decoding.{without_modrm_at, after_modrm_at, modrm_at};
 ghost use Rattle.erim_defs.specs.Encoding.Decoding.{tail_at, least_body, least_second, body_at};
 ghost use Rattle.x86_decode.specs.Gives.{Gives};
 
@@ -35,7 +35,7 @@ fn admits(lead: Lead, row: Row, m: u8) -> bool
         && (!lead.rex.b || !row.low)
 }
 
-/// The row of the table at an opcode and the byte behind it.
+/// The row of the table at an opcode and the byte after it.
 fn lookup(lead: Lead, escape: bool, op: u8, m: u8) -> Option<Row>
     ensures row { result ≡ lookup table_lines escape lead.f3 lead.rex.w op m }
     ensures small { IfSome result (λ r. r.imm ≤ 8) }
@@ -59,7 +59,7 @@ fn row_at(lead: Lead, escape: bool, op: u8, m: u8) -> Option<Row>
     }
 }
 
-/// Does a ModRM byte stand behind the opcode?
+/// Does a ModRM byte stand after the opcode?
 #[tactic(auto, unfolding(erim_defs::specs::Encoding::Decoding::modrm_follows))]
 fn modrm_follows(escape: bool, op: u8) -> bool
     ensures { result ≡ modrm_follows escape op }
@@ -134,7 +134,7 @@ fn fields_of(lead: Lead, op: u8, m: u8, place: Place) -> Fields
     }
 }
 
-/// Behind an opcode without ModRM.
+/// After an opcode without ModRM.
 #[tactic(auto, unfolding(erim_defs::specs::Encoding::Decoding::without_modrm_at))]
 fn without_modrm_at(
     lead: Lead,
@@ -162,9 +162,9 @@ fn without_modrm_at(
     ))
 }
 
-/// Behind a ModRM byte.
-#[tactic(auto, unfolding(erim_defs::specs::Encoding::Decoding::behind_modrm_at))]
-fn behind_modrm_at(
+/// After a ModRM byte.
+#[tactic(auto, unfolding(erim_defs::specs::Encoding::Decoding::after_modrm_at))]
+fn after_modrm_at(
     lead: Lead,
     op: u8,
     m: u8,
@@ -173,7 +173,7 @@ fn behind_modrm_at(
 ) -> Result<(Insn, Sizes, &[u8]), Stop>
     requires { IfSome row (λ r. r.imm ≤ 8) }
     ensures { Gives (λ x. ((x.0, x.1.skip, x.1.disp, x.1.imm), x.2.now)) result
-        (behind_modrm_at lead op m row bytes.now) }
+        (after_modrm_at lead op m row bytes.now) }
 {
     let Some(row) = row else {
         return Err(Stop::Undefined);
@@ -192,7 +192,7 @@ fn behind_modrm_at(
     ))
 }
 
-/// Behind an opcode with ModRM.
+/// After an opcode with ModRM.
 #[tactic(auto, unfolding(erim_defs::specs::Encoding::Decoding::modrm_at))]
 fn modrm_at(lead: Lead, escape: bool, op: u8, bytes: &[u8]) -> Result<(Insn, Sizes, &[u8]), Stop>
     ensures { Gives (λ x. ((x.0, x.1.skip, x.1.disp, x.1.imm), x.2.now)) result
@@ -200,11 +200,11 @@ fn modrm_at(lead: Lead, escape: bool, op: u8, bytes: &[u8]) -> Result<(Insn, Siz
 {
     match bytes {
         [] => Err(modrm_stop(lead, escape, op)),
-        [m, rest @ ..] => behind_modrm_at(lead, op, *m, row_at(lead, escape, op, *m), rest),
+        [m, rest @ ..] => after_modrm_at(lead, op, *m, row_at(lead, escape, op, *m), rest),
     }
 }
 
-/// Behind an opcode.
+/// After an opcode.
 #[tactic(auto, unfolding(erim_defs::specs::Encoding::Decoding::tail_at))]
 fn tail_at(lead: Lead, escape: bool, op: u8, bytes: &[u8]) -> Result<(Insn, Sizes, &[u8]), Stop>
     ensures { Gives (λ x. ((x.0, x.1.skip, x.1.disp, x.1.imm), x.2.now)) result
@@ -234,7 +234,7 @@ fn least_body(lead: Lead) -> Stop
     }
 }
 
-/// What is missing behind the escape opcode 0F.
+/// What is missing after the escape opcode 0F.
 #[tactic(auto, unfolding(erim_defs::specs::Encoding::Decoding::least_second))]
 fn least_second(lead: Lead) -> Stop
     ensures { result ≡ least_second lead.lock lead.size_prefix lead.f3 }

@@ -15,7 +15,7 @@ use erim_defs::grammar::Stop;
 const LIMIT: usize = 15;
 
 /// The front of the bytes that an encoding can have.
-#[tactic(auto, using(erim_defs::proofs::EncodingLemmas::window_take, erim_defs::proofs::EncodingLemmas::window_all))]
+#[tactic(auto, using(encoding_laws::proofs::EncodingLemmas::window_take, encoding_laws::proofs::EncodingLemmas::window_all))]
 pub fn window_of(bytes: &[u8]) -> &[u8]
     ensures { IsWindow bytes.now result.now }
 {

@@ -98,7 +98,7 @@ fn prefix_lead(skip: u8, lock: bool, size_prefix: bool) -> Lead
     }
 }
 
-/// The whole instruction behind `skip` prefixes, its sizes, and the bytes after it.
+/// The whole instruction after `skip` prefixes, its sizes, and the bytes after it.
 #[tactic(auto, unfolding(erim_defs::specs::Encoding::Decoding::front_at))]
 pub fn front_at(
     skip: u8,

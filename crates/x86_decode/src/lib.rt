@@ -1,10 +1,10 @@
 //! The decoder: reads the x86-64 instruction that bytes begin with.
 //!
-//! `decode` tells the instruction, its length and the bytes before its opcode, or that the bytes
+//! `decode` says the instruction, its length and the bytes before its opcode, or that the bytes
 //! begin no instruction, or that they are the beginning of one. It is `decode` of
 //! `erim_defs/specs/Decoding`, and what `Decodes` says: which bytes encode which instruction is
-//! `Encodes` of `Grammar`. `locate` tells where displacement, immediate and relative offset stand,
-//! by `Locates` of `specs/Layout`, and `measure` the instruction with the sizes of its parts,
+//! `Encodes` of `Grammar`. `locate` says where displacement, immediate and relative offset stand,
+//! by `Locates` of `specs/PartPlaces`, and `measure` the instruction with the sizes of its parts,
 //! exactly as `standing` of `erim_defs`. The two laws, `prefix_free` and `decode_is_exact`, have
 //! nothing to run: who needs them in a proof calls them. The machine's steps (`erim_process`) and
 //! `erim disasm` call `decode`. In the files: `front` reads prefixes, F3 and REX, `body` what
@@ -22,4 +22,4 @@ mod operand;
 mod positions;
 
 pub use decoding::{decode, decode_is_exact, prefix_free};
-pub use positions::{Layout, Measured, Part, locate, measure};
+pub use positions::{Measured, Part, PartPlaces, locate, measure};

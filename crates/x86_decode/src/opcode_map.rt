@@ -162,7 +162,7 @@ pub fn one_byte_row(f3: bool, w: bool, op: u8, m: u8) -> Option<Row>
     }
 }
 
-/// The row of an opcode behind the escape opcode 0F.
+/// The row of an opcode after the escape opcode 0F.
 #[tactic(auto, unfolding(erim_defs::specs::Encoding::OpcodeMap::two_byte_row))]
 pub fn two_byte_row(f3: bool, op: u8, m: u8) -> Option<Row>
     ensures row { result ≡ two_byte_row f3 op m }
@@ -213,7 +213,7 @@ pub fn one_byte_has_modrm(op: u8) -> bool
     }
 }
 
-/// Whether ModRM follows an opcode behind 0F.
+/// Whether ModRM follows an opcode after 0F.
 #[tactic(auto, unfolding(erim_defs::specs::Encoding::OpcodeMap::two_byte_has_modrm))]
 pub fn two_byte_has_modrm(op: u8) -> bool
     ensures { result ≡ two_byte_has_modrm op }

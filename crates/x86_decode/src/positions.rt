@@ -1,7 +1,8 @@
 //! Where an instruction's displacement, immediate and relative offset stand in its bytes.
 
 ghost use Rattle.std.specs.Prelude.{◌≡◌, ◌+◌, ◌<◌, ◌≤◌, IfSome, length};
-ghost use Rattle.x86_decode.specs.Layout.{part_at, ends_in_relative_offset, layout_of, Locates};
+ghost use Rattle.x86_decode.specs.PartPlaces.{part_at, ends_in_relative_offset, part_places};
+ghost use Rattle.x86_decode.specs.PartPlaces.{Locates};
 ghost use Rattle.x86_decode.specs.Stands.{Stands};
 
 use crate::body::Sizes;
@@ -9,7 +10,7 @@ use crate::decoding::window_of;
 use crate::front::front_at;
 use erim_defs::Insn;
 
-/// So many bytes of an instruction, from a place on.
+/// A given number of bytes of an instruction, from a place on.
 #[derive(Clone, Copy, PartialEq, Eq)]
 pub struct Part {
     pub at: u8,
@@ -19,7 +20,7 @@ pub struct Part {
 /// Where an instruction's displacement, immediate and relative offset stand in its bytes (SDM
 /// volume 2, "Displacement and immediate bytes").
 #[derive(Clone, Copy, PartialEq, Eq)]
-pub struct Layout {
+pub struct PartPlaces {
     /// Of its operand in memory.
     pub displacement: Option<Part>,
     pub immediate: Option<Part>,
@@ -27,7 +28,7 @@ pub struct Layout {
     pub relative_offset: Option<Part>,
 }
 
-/// So many bytes, if any.
+/// A given number of bytes, if any.
 fn part_at(at: u8, len: u8) -> Option<Part>
     ensures { result ≡ part_at at len }
 {
@@ -48,20 +49,20 @@ fn ends_in_relative_offset(insn: &Insn) -> bool
 }
 
 /// The parts of an instruction of `len` bytes.
-fn layout_of(insn: &Insn, sizes: Sizes, len: u8) -> Layout
+fn part_places(insn: &Insn, sizes: Sizes, len: u8) -> PartPlaces
     requires { sizes.disp + sizes.imm ≤ len }
-    ensures { result ≡ layout_of len insn.now sizes.disp sizes.imm }
+    ensures { result ≡ part_places len insn.now sizes.disp sizes.imm }
 {
     let number = part_at(len - sizes.imm, sizes.imm);
     let displacement = part_at(len - sizes.imm - sizes.disp, sizes.disp);
     if ends_in_relative_offset(insn) {
-        Layout {
+        PartPlaces {
             displacement,
             immediate: None,
             relative_offset: number,
         }
     } else {
-        Layout {
+        PartPlaces {
             displacement,
             immediate: number,
             relative_offset: None,
@@ -71,14 +72,14 @@ fn layout_of(insn: &Insn, sizes: Sizes, len: u8) -> Layout
 
 /// The layout of the instruction that the bytes begin with; nothing where they begin with none.
 /// Takes no memory.
-pub fn locate(bytes: &[u8]) -> Option<Layout>
+pub fn locate(bytes: &[u8]) -> Option<PartPlaces>
     ensures { Locates bytes.now result }
 {
     let window = window_of(bytes);
     match front_at(0, false, false, window) {
         Ok((insn, sizes, rest)) => {
             let len = (window.len() - rest.len()) as u8;
-            Some(layout_of(&insn, sizes, len))
+            Some(part_places(&insn, sizes, len))
         }
         Err(_) => None,
     }

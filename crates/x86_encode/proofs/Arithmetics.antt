@@ -38,7 +38,7 @@ use Rattle.erim_defs.specs.Encoding.Canonical.{unary_bytes, word_rm_bytes}
 use Rattle.erim_defs.specs.Encoding.OpcodeMap.{one_byte_row, two_byte_row, alu_opcode_row}
 use Rattle.erim_defs.specs.Encoding.OpcodeMap.{middle_opcode_row, high_opcode_row, is_shift_reg}
 use Rattle.erim_defs.specs.Encoding.OpcodeMap.{one_byte_has_modrm, two_byte_has_modrm}
-use Rattle.erim_defs.proofs.OpcodeMapLemmas.{row_in_map, modrm_in_map}
+use Rattle.encoding_laws.proofs.OpcodeMapLemmas.{row_in_map, modrm_in_map}
 use Rattle.erim_defs.proofs.TableLemmas.{table, tabulated}
 use Rattle.x86_encode.proofs.Numbers.{one_length, one_are, one_signed, small_fits, four_length}
 use Rattle.x86_encode.proofs.Numbers.{four_are, four_signed}

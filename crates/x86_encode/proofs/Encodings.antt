@@ -19,11 +19,11 @@ use Rattle.erim_defs.specs.Encoding.Canonical.{lock_bytes, rex_of, is_upper, opc
 use Rattle.erim_defs.specs.Encoding.Canonical.{operand_bytes, has_upper_index, has_upper_base}
 use Rattle.erim_defs.specs.Encoding.Canonical.{opcode_with_modrm, opcode_with_register}
 use Rattle.erim_defs.specs.Encoding.Canonical.{opcode_alone}
-use Rattle.erim_defs.proofs.PartLemmas.{bytes_append}
-use Rattle.erim_defs.proofs.OpcodeMapLemmas.{row_in_map, row_in_map_is, modrm_in_map, asks_is}
-use Rattle.erim_defs.proofs.TailLemmas.{Found, OfPlain, OfModrm, Tail}
-use Rattle.erim_defs.proofs.BodyLemmas.{choose_left, choose_right}
-use Rattle.erim_defs.proofs.BodyExact.{First, body_back}
+use Rattle.erim_defs.proofs.ByteLemmas.{bytes_append}
+use Rattle.encoding_laws.proofs.OpcodeMapLemmas.{row_in_map, row_in_map_is, modrm_in_map, asks_is}
+use Rattle.encoding_laws.proofs.TailLemmas.{Found, OfPlain, OfModrm, Tail}
+use Rattle.encoding_laws.proofs.BodyLemmas.{choose_left, choose_right}
+use Rattle.encoding_laws.proofs.BodyExact.{First, body_back}
 use Rattle.x86_encode.proofs.Facts.{PlaceFits, is_memory, raw}
 use Rattle.x86_encode.proofs.Leads.{lead, lead_is, prefixes_are, lock_are, rex_is, rex_are}
 use Rattle.x86_encode.proofs.Operands.{operand_of}
@@ -262,7 +262,8 @@ unfolding opcode_with_register opcode_bytes
 register_encodes w asked op n row imm insn r low long short are says =
     let P : List ℕ → Type 0 = λ t. IsEncoding t insn in
     subst P (sym (append_assoc (rex_bytes (rex_of asked w false false (is_upper n))) ((op + n % 8)
-    ∷ []) imm)) (plain_encodes asked w (is_upper n) false (op + n % 8) row imm insn r (λ _. low) long short are says)
+    ∷ []) imm)) (plain_encodes asked w (is_upper n) false (op + n % 8) row imm insn r
+    (λ _. low) long short are says)
 
 -- without a number
 pub bare : (encoding : List ℕ) (insn : Insn) → IsEncoding (encoding ++ []) insn

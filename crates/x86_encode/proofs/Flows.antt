@@ -36,7 +36,7 @@ use Rattle.erim_defs.specs.Encoding.Canonical.{canonical_encoding}
 use Rattle.erim_defs.specs.Encoding.OpcodeMap.{one_byte_row, two_byte_row, middle_opcode_row}
 use Rattle.erim_defs.specs.Encoding.OpcodeMap.{high_opcode_row, one_byte_has_modrm}
 use Rattle.erim_defs.specs.Encoding.OpcodeMap.{two_byte_has_modrm}
-use Rattle.erim_defs.proofs.OpcodeMapLemmas.{row_in_map, modrm_in_map}
+use Rattle.encoding_laws.proofs.OpcodeMapLemmas.{row_in_map, modrm_in_map}
 use Rattle.erim_defs.proofs.TableLemmas.{tabulated}
 use Rattle.x86_encode.proofs.Numbers.{small_fits}
 use Rattle.x86_encode.proofs.Encodings.{IsEncoding, PlainRow, alone_encodes, register_encodes, bare}

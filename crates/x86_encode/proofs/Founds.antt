@@ -7,8 +7,8 @@ use Rattle.erim_defs.specs.declared.insn.Place.{Place}
 use Rattle.erim_defs.specs.declared.insn.Width.{Width}
 use Rattle.erim_defs.specs.declared.insn.Width.TheVariants.{W1, W4, W8}
 use Rattle.erim_defs.specs.Encoding.Canonical.{is_wide, opcode_of_width, operand_bytes}
-use Rattle.erim_defs.proofs.OpcodeMapLemmas.{row_in_map, modrm_in_map}
-use Rattle.erim_defs.proofs.LineLemmas.{both_true}
+use Rattle.encoding_laws.proofs.OpcodeMapLemmas.{row_in_map, modrm_in_map}
+use Rattle.encoding_laws.proofs.LineLemmas.{both_true}
 use Rattle.erim_defs.proofs.TableLemmas.{table, tabulated}
 use Rattle.x86_encode.proofs.Facts.{is_memory}
 use Rattle.x86_encode.proofs.Encodings.{ModrmRow}
@@ -32,7 +32,7 @@ any_row escape wide op reg e row lt apart asks found low =
       any_low = low;
     }
 
--- the same row at an even opcode and at the odd one behind it
+-- the same row at an even opcode and at the odd one after it
 pub sized_any : (escape : Bool) (op reg : ℕ) (e : Place) (row : Row) → op < 255 → Apart escape op
     → Apart escape (op + 1) → modrm_in_map escape op ≡ true → modrm_in_map escape (op + 1) ≡ true
     → AnyTable escape op row → AnyTable escape (op + 1) row → row.low ≡ false → (w : Width)
@@ -127,7 +127,7 @@ same_row W1 row = refl
 same_row W4 row = refl
 same_row W8 row = refl
 
--- the same row at an even opcode and at the odd one behind it, with a reg
+-- the same row at an even opcode and at the odd one after it, with a reg
 pub both_ext : (op reg : ℕ) (e : Place) (row : Row) → op < 255 → Apart false op
     → Apart false (op + 1) → modrm_in_map false op ≡ true → modrm_in_map false (op + 1) ≡ true
     → ExtTable false op reg row → ExtTable false (op + 1) reg row → reg < 8 → row.low ≡ false

@@ -8,7 +8,7 @@ use Rattle.erim_defs.specs.Encoding.Grammar.{rex_bytes, lead_of, prefix_lead, wi
 use Rattle.erim_defs.specs.Encoding.Grammar.{rex_bits, is_rex, is_prefix, every}
 use Rattle.erim_defs.specs.Encoding.Canonical.{lock_bytes, bit_value, rex_byte, rex_of}
 use Rattle.std.proofs.lemmas.Bool.{le-leb}
-use Rattle.erim_defs.proofs.LineLemmas.{both_true}
+use Rattle.encoding_laws.proofs.LineLemmas.{both_true}
 use Rattle.erim_defs.proofs.TableLemmas.{bools, by_bools}
 
 abbrev pub lead : Bool → Bool → Bool → Bool → Bool → Bool → Lead

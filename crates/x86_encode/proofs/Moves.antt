@@ -31,7 +31,7 @@ use Rattle.erim_defs.specs.Encoding.Canonical.{mov_imm_bytes, mov_bytes, extensi
 use Rattle.erim_defs.specs.Encoding.OpcodeMap.{one_byte_row, two_byte_row, middle_opcode_row}
 use Rattle.erim_defs.specs.Encoding.OpcodeMap.{high_opcode_row, one_byte_has_modrm}
 use Rattle.erim_defs.specs.Encoding.OpcodeMap.{two_byte_has_modrm}
-use Rattle.erim_defs.proofs.OpcodeMapLemmas.{row_in_map, modrm_in_map}
+use Rattle.encoding_laws.proofs.OpcodeMapLemmas.{row_in_map, modrm_in_map}
 use Rattle.erim_defs.proofs.TableLemmas.{table, tabulated}
 use Rattle.x86_encode.proofs.Numbers.{eight_length, eight_are, eight_wide}
 use Rattle.x86_encode.proofs.Facts.{limit, is_memory}

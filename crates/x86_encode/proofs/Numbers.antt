@@ -9,7 +9,7 @@ use Rattle.std.proofs.lemmas.Bool.{leb-true}
 use Rattle.erim_defs.specs.Encoding.Parts.{AreBytes, signed_value}
 use Rattle.erim_defs.specs.Encoding.Forms.{imm64}
 use Rattle.erim_defs.specs.Encoding.Canonical.{four_bytes, one_byte, eight_bytes, fits_byte}
-use Rattle.erim_defs.proofs.LineLemmas.{and_true}
+use Rattle.encoding_laws.proofs.LineLemmas.{and_true}
 
 pub four_length : (z : ℤ) → length (four_bytes z) ≡ 4
 unfolding four_bytes

@@ -24,7 +24,7 @@ use Rattle.erim_defs.specs.Encoding.Canonical.{register_number, modrm_byte, inde
 use Rattle.erim_defs.specs.Encoding.Canonical.{disp_mode, disp_bytes, needs_sib, base_disp_bytes}
 use Rattle.erim_defs.specs.Encoding.Canonical.{memory_bytes, operand_bytes, has_upper_index}
 use Rattle.erim_defs.specs.Encoding.Canonical.{has_upper_base}
-use Rattle.erim_defs.proofs.BodyLemmas.{choose_left, choose_right}
+use Rattle.encoding_laws.proofs.BodyLemmas.{choose_left, choose_right}
 use Rattle.x86_encode.proofs.Numbers.{four_length, four_are, four_signed, one_length, one_are}
 use Rattle.x86_encode.proofs.Numbers.{one_signed, small_fits}
 use Rattle.x86_encode.proofs.Facts.{BaseFits, IndexFits, ScaleFits, RipFits, PlaceFits, is_memory}

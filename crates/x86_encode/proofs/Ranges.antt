@@ -35,7 +35,7 @@ use Rattle.erim_defs.specs.Encoding.Forms.{opcode_reg, alu_op, imm8, imm64, arit
 use Rattle.erim_defs.specs.Encoding.Forms.{flow_of, exchange_of, system_of, insn_of}
 use Rattle.erim_defs.specs.Encoding.Grammar.{InsnAndSizes, In, Encodes, lead_of, admits, fields_of}
 use Rattle.erim_defs.specs.Encoding.Canonical.{alu_number}
-use Rattle.erim_defs.proofs.LineLemmas.{every, every_in, and_true}
+use Rattle.encoding_laws.proofs.LineLemmas.{every, every_in, and_true}
 use Rattle.erim_defs.proofs.TableLemmas.{table, tabulated}
 use Rattle.x86_encode.proofs.Facts.{limit, MemFits, PlaceFits, is_memory}
 use Rattle.x86_encode.proofs.Views.{WidthFits, IsWord, SizedFits, IsLow, place_up, limit_low}
@@ -99,7 +99,8 @@ by_line line op lt i e =
     left_false : (a : Bool) → a ≡ true
         → (not a || (form_fits line.row.form op line.row.imm line.row.locks line.ask
         && (not line.row.locks || has_modrm
-        line.ask))) ≡ true → (form_fits line.row.form op line.row.imm line.row.locks line.ask && (not line.row.locks || has_modrm line.ask)) ≡ true
+        line.ask))) ≡ true → (form_fits line.row.form op line.row.imm line.row.locks line.ask
+        && (not line.row.locks || has_modrm line.ask)) ≡ true
     left_false true p q = q
     left_false false p q = absurd cc
 

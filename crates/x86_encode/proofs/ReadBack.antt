@@ -4,8 +4,8 @@ use Rattle.erim_defs.specs.declared.insn.Insn.{Insn}
 use Rattle.erim_defs.specs.Encoding.Grammar.{Encodes}
 use Rattle.erim_defs.specs.Encoding.WellFormed.{IsWellFormed}
 use Rattle.erim_defs.specs.Encoding.Canonical.{canonical_encoding}
-use Rattle.erim_defs.proofs.PartLemmas.{bytes_append}
-use Rattle.erim_defs.proofs.DecodeLemmas.{decode_again}
+use Rattle.erim_defs.proofs.ByteLemmas.{bytes_append}
+use Rattle.encoding_laws.proofs.DecodeLemmas.{decode_again}
 use Rattle.x86_encode.specs.ReadBack.{IsReadBack}
 use Rattle.x86_encode.proofs.Flows.{canonical_encodes}
 use Rattle.x86_encode.proofs.Ranges.{encoding_good}

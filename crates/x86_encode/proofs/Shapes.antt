@@ -18,8 +18,8 @@ use Rattle.erim_defs.specs.Encoding.Forms.{insn_of}
 use Rattle.erim_defs.specs.Encoding.Grammar.{at_line, InsnAndSizes, In, Rest, After, Opcode}
 use Rattle.erim_defs.specs.Encoding.Grammar.{Escaped, Body, admits, fields_of, has_byte, if_rex}
 use Rattle.erim_defs.specs.Encoding.Grammar.{lead_of, prefix_lead, with_f3, with_rex, rex_bits}
-use Rattle.erim_defs.proofs.PartLemmas.{when_to}
-use Rattle.erim_defs.proofs.LineLemmas.{and_true}
+use Rattle.encoding_laws.proofs.PartLemmas.{when_to}
+use Rattle.encoding_laws.proofs.LineLemmas.{and_true}
 use Rattle.x86_encode.proofs.Facts.{limit, BaseFits, RipFits, MemFits, PlaceFits, is_memory}
 use Rattle.x86_encode.proofs.Views.{IsLow}
 

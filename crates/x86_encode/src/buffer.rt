@@ -1,4 +1,4 @@
-//! Writes bytes and immediates into the buffer, each behind what is there.
+//! Writes bytes and immediates into the buffer, each after what is there.
 
 ghost use Rattle.std.specs.Prelude.{◌≡◌, ◌<◌, ◌≤◌, ◌+◌, ◌++◌, ◌∷◌, ℕ, [], take, get_or};
 ghost use Rattle.erim_defs.specs.Encoding.Canonical.{four_bytes, one_byte, eight_bytes, fits_byte};

@@ -114,7 +114,7 @@ fn put_rex(into: &mut [u8; 15], at: u8, asked: bool, w: bool, bits: RexBits) -> 
     }
 }
 
-/// The opcode, behind 0F or not.
+/// The opcode, after 0F or not.
 #[tactic(auto, unfolding(erim_defs::specs::Encoding::Canonical::opcode_bytes))]
 fn put_opcode(into: &mut [u8; 15], at: u8, escape: bool, op: u8) -> u8
     requires { at ≤ 2 }

@@ -8,14 +8,15 @@ use Rattle.erim_defs.specs.declared.machine.Thread.{Thread}
 use Rattle.erim_defs.specs.declared.machine.Access.{Access}
 use Rattle.erim_defs.specs.declared.machine.Access.TheVariants.{Fault, Missing}
 use Rattle.erim_defs.specs.Machine.Pages.{RightsMap, ByteMap, word, published_code, code_bytes}
-use Rattle.erim_defs.specs.Machine.Access.{Seen, whole, stop, stop_at, stop_by, stop_or}
+use Rattle.erim_defs.specs.Machine.Access.{Seen, whole, stop, stop_at, stop_by}
+use Rattle.erim_defs.specs.Inspection.Code.{or_else}
 use Rattle.erim_defs.specs.Machine.Plan.{Plan, Ask, Give, Refuse, Call, Write, Effect, Done}
 use Rattle.erim_defs.specs.Machine.Plan.{Stopped, Called, effect, unless, effect_of_write}
 use Rattle.page_store.specs.Answers.{fetch_of, code_told, cons_ok}
 use Rattle.page_store.specs.Notes.{NoteMap, Notes, AllHeldNoted, looked_access, looked_fetch}
 use Rattle.page_store.specs.Notes.{unless_stopped, while_published}
-use Rattle.page_store.proofs.FetchLemmas.{fetch_of_whole}
-use Rattle.x86_step.specs.Looked.{looked_write, looked}
+use Rattle.page_store.specs.FetchLaw.{WholeFetchLaw}
+use Rattle.x86_step.specs.Looked.{looked_write, looked_addresses}
 use Rattle.x86_step.specs.Boundary.{AgreesAt, Agree, AgreesOn, NoneMissing}
 
 -- ---- an answer that names no missing page, by its cases
@@ -83,18 +84,18 @@ stop_at_same s o write pkru a x y t h = elim (cases_Bool (nat_lt a (2 ^ 47))) [
   | inr u ↦ rw u refl
 ]
 
-held_first : (first rest : Option Access) → IsHeld (stop_or first rest) → IsHeld first
+held_first : (first rest : Option Access) → IsHeld (or_else first rest) → IsHeld first
 held_first None rest t = tt
 held_first (Some x) rest t = t
 
--- behind the first byte, by what it says
+-- after the first byte, by what it says
 stop_go : (s : Seen) (b : ByteMap) (o : Seen) (c : ByteMap) (write : Bool) (pkru a n : ℕ)
     (first : Option Access)
     → (IsHeld (stop s write pkru a n) → Agree s b o c (looked_access s write pkru a n)
     → stop o write pkru a n ≡ stop s write pkru a n)
-    → IsHeld (stop_or first (stop s write pkru a n))
+    → IsHeld (or_else first (stop s write pkru a n))
     → Agree s b o c (unless_stopped first (looked_access s write pkru a n))
-    → stop_or first (stop o write pkru a n) ≡ stop_or first (stop s write pkru a n)
+    → or_else first (stop o write pkru a n) ≡ or_else first (stop s write pkru a n)
 stop_go s b o c write pkru a n None behind t k = behind t k
 stop_go s b o c write pkru a n (Some x) behind t k = refl
 
@@ -132,7 +133,7 @@ word_go : (s : Seen) (b : ByteMap) (o : Seen) (c : ByteMap) (write : Bool) (pkru
     → (stop s write pkru a n ≡ None → Agree s b o c (looked_access s write pkru a n)
     → word c a n ≡ word b a n)
     → Agree s b o c (unless_stopped first (looked_access s write pkru a n))
-    → stop_or first (stop s write pkru a n) ≡ None → (first ≡ None → y ≡ x)
+    → or_else first (stop s write pkru a n) ≡ None → (first ≡ None → y ≡ x)
     → y + 256 * word c a n ≡ x + 256 * word b a n
 word_go s b o c write pkru a n x y None behind k e h = rw (h refl, behind e k) refl
 word_go s b o c write pkru a n x y (Some stopped) behind k e h = absurd (cc)
@@ -165,18 +166,18 @@ write_same t (Some w) s b o c pkru told h =
 -- a load, by why it stops
 ask_same : (s : Seen) (b : ByteMap) (o : Seen) (c : ByteMap) (pkru rip : ℕ) (k : ℕ → Plan)
     (x y : ℕ) (stopped : Option Access) → (stopped ≡ None → y ≡ x)
-    → (IsTold (effect (k x) s b pkru rip) → Agree s b o c (looked (k x) s b pkru)
+    → (IsTold (effect (k x) s b pkru rip) → Agree s b o c (looked_addresses (k x) s b pkru)
     → effect (k x) o c pkru rip ≡ effect (k x) s b pkru rip)
     → IsTold (unless stopped (effect (k x) s b pkru rip))
-    → Agree s b o c (unless_stopped stopped (looked (k x) s b pkru))
+    → Agree s b o c (unless_stopped stopped (looked_addresses (k x) s b pkru))
     → unless stopped (effect (k y) o c pkru rip) ≡ unless stopped (effect (k x) s b pkru rip)
 ask_same s b o c pkru rip k x y None e behind t h = rw (e refl) (behind t h)
 ask_same s b o c pkru rip k x y (Some a) e behind t h = refl
 
 effect_same : (p : Plan) (s : Seen) (b : ByteMap) (o : Seen) (c : ByteMap) (pkru rip : ℕ)
-    → IsTold (effect p s b pkru rip) → Agree s b o c (looked p s b pkru)
+    → IsTold (effect p s b pkru rip) → Agree s b o c (looked_addresses p s b pkru)
     → effect p o c pkru rip ≡ effect p s b pkru rip
-unfolding effect looked
+unfolding effect looked_addresses
 effect_same (Ask a n k) s b o c pkru rip t h =
     let front = agree_left s b o c (looked_access s false pkru a n) _ h in
     let behind = agree_right s b o c (looked_access s false pkru a n) _ h in
@@ -190,17 +191,18 @@ effect_same Refuse s b o c pkru rip t h = refl
 effect_same Call s b o c pkru rip t h = refl
 
 pub boundary : (p : Plan) (s : Seen) (b : ByteMap) (o : Seen) (c : ByteMap) (pkru rip : ℕ)
-    → NoneMissing (effect p s b pkru rip) → Agree s b o c (looked p s b pkru)
+    → NoneMissing (effect p s b pkru rip) → Agree s b o c (looked_addresses p s b pkru)
     → effect p o c pkru rip ≡ effect p s b pkru rip
 boundary p s b o c pkru rip t h =
     effect_same p s b o c pkru rip (is_told (effect p s b pkru rip) t) h
 
 pub noted_boundary : (p : Plan) (s : Seen) (b : ByteMap) (o : Seen) (c : ByteMap) (pkru rip : ℕ)
     (old notes : NoteMap) → NoneMissing (effect p s b pkru rip)
-    → Notes s old notes (looked p s b pkru) → AgreesOn notes s b o c
+    → Notes s old notes (looked_addresses p s b pkru) → AgreesOn notes s b o c
     → effect p o c pkru rip ≡ effect p s b pkru rip
 noted_boundary p s b o c pkru rip old notes t n h =
-    boundary p s b o c pkru rip t (agree_noted notes s b o c (looked p s b pkru) h n.noted)
+    boundary p s b o c pkru rip t (agree_noted notes s b o c
+    (looked_addresses p s b pkru) h n.noted)
 
 -- ---- fetches
 
@@ -209,7 +211,7 @@ cons_rest : (x : ℕ) (r : Result (List ℕ) ℕ) (code : List ℕ) → cons_ok 
 cons_rest x (Ok xs) code e = (xs, refl)
 cons_rest x (Err q) code e = absurd (cc)
 
--- a byte and those behind it, by what is told of its page
+-- a byte and those after it, by what is said of its page
 fetch_go : (told other : Option (Option Rights)) (q x y : ℕ) (r z : Result (List ℕ) ℕ)
     (code : List ℕ) (s : Seen) (b : ByteMap) (o : Seen) (c : ByteMap) (behind : List ℕ)
     → code_told told q x r ≡ Ok code
@@ -242,10 +244,10 @@ pub noted_fetch_boundary : (s : Seen) (b : ByteMap) (o : Seen) (c : ByteMap) (a 
 noted_fetch_boundary s b o c a n code old notes e k h =
     fetch_boundary s b o c a n code e (agree_noted notes s b o c (looked_fetch s a n) h k.noted)
 
-pub whole_fetch_boundary : (s : Seen) (b : ByteMap) (rights : RightsMap) (c : ByteMap) (a n : ℕ)
-    (code : List ℕ) → fetch_of s b a n ≡ Ok code
+pub whole_fetch_boundary : WholeFetchLaw → (s : Seen) (b : ByteMap) (rights : RightsMap)
+    (c : ByteMap) (a n : ℕ) (code : List ℕ) → fetch_of s b a n ≡ Ok code
     → Agree s b (whole rights) c (looked_fetch s a n)
     → code_bytes (published_code rights c) a n ≡ code
-whole_fetch_boundary s b rights c a n code e h =
+whole_fetch_boundary law s b rights c a n code e h =
     let found = fetch_boundary s b (whole rights) c a n code e h in
-    let all = fetch_of_whole rights c a n in cc
+    let all = law rights c a n in cc

@@ -24,7 +24,7 @@ use Rattle.erim_defs.specs.Machine.Meaning.{write_back}
 use Rattle.page_store.specs.Answers.{or_stop, load_of, bytes_after_store}
 use Rattle.page_store.specs.Notes.{NoteMap, Notes, AllHeldNoted, looked_access, unless_stopped}
 use Rattle.page_store.specs.declared.memory.Memory.{Ghosts}
-use Rattle.x86_step.specs.Looked.{looked}
+use Rattle.x86_step.specs.Looked.{looked_addresses}
 use Rattle.x86_step.specs.Executes.{Comes, Keeps, Executes, Gets, Puts, write_at}
 
 -- ---- notes
@@ -57,9 +57,10 @@ record Leads {M : Type 0} (g : Ghosts M) (p q : Plan) (t : Thread) (memory after
   bytes : g.bytes after ≡ g.bytes memory
   keeps : Keeps g memory after
   notes : (new : NoteMap)
-      → Notes (g.seen memory) (g.notes after) new (looked q (g.seen memory) (g.bytes memory) t.pkru)
+      → Notes (g.seen memory) (g.notes after) new (looked_addresses q (g.seen memory)
+      (g.bytes memory) t.pkru)
       → Notes (g.seen memory) (g.notes memory) new
-      (looked p (g.seen memory) (g.bytes memory) t.pkru)
+      (looked_addresses p (g.seen memory) (g.bytes memory) t.pkru)
 
 -- an execution of what is left of a plan is one of the plan
 executes_rest : {M : Type 0} (g : Ghosts M) (p q : Plan) (t to : Thread) (memory mid after : M)
@@ -96,7 +97,7 @@ pub loads : {M : Type 0} (g : Ghosts M) (a n : ℕ) (t : Thread) (memory after :
     → Notes (g.seen memory) (g.notes memory) (g.notes after)
     (looked_access (g.seen memory) false t.pkru a n)
     → Gets g (Ask a n) t memory after r
-unfolding effect looked
+unfolding effect looked_addresses
 loads g a n t memory after (Ok v) e s b h = λ k to last r x. executes_rest g (Ask a n k) (k v) t to
     memory after last r (
     let o = stop (g.seen memory) false t.pkru a n in
@@ -109,7 +110,8 @@ loads g a n t memory after (Ok v) e s b h = λ k to last r x. executes_rest g (A
       notes = λ new m. notes_both (g.seen memory) (g.notes memory) (g.notes after) new
           (looked_access (g.seen memory) false t.pkru a n) _ h
           (subst (Notes (g.seen memory) (g.notes after) new)
-          (sym (loaded o x v unless_stopped (λ y. looked (k y) (g.seen memory) (g.bytes memory)
+          (sym (loaded o x v unless_stopped (λ y. looked_addresses (k y) (g.seen memory)
+          (g.bytes memory)
           t.pkru) (λ y. refl) (sym e))) m);
     }) x
 loads g a n t memory after (Err s) e q b h = λ k. (
@@ -125,7 +127,8 @@ loads g a n t memory after (Err s) e q b h = λ k. (
       keeps = q;
       notes = subst (Notes (g.seen memory) (g.notes memory) (g.notes after))
           (sym (ap (λ o. looked_access (g.seen memory) false t.pkru a n ++ unless_stopped o
-          (looked (k (word (g.bytes memory) a n)) (g.seen memory) (g.bytes memory) t.pkru)) no
+          (looked_addresses (k (word (g.bytes memory) a n)) (g.seen memory)
+          (g.bytes memory) t.pkru)) no
           ∙ append-nil (looked_access (g.seen memory) false t.pkru a n))) h;
     })
 
@@ -188,7 +191,7 @@ pub stores_at : {M : Type 0} (g : Ghosts M) (a n v : ℕ) (t : Thread) (memory a
     → Notes (g.seen memory) (g.notes memory) (g.notes after)
     (looked_access (g.seen memory) true t.pkru a n)
     → Puts g (λ next. Give next (write_at a n v)) (λ next. next) t memory after r
-unfolding effect looked
+unfolding effect looked_addresses
 stores_at g a n v t memory after (Ok u) e s b h = λ next last q. rw q (
     let no : stop (g.seen memory) true t.pkru a n ≡ None = none_stored _ u (sym e) in
     record {
@@ -243,7 +246,7 @@ stores_back g w place m v len t memory after r p h =
 -- a result without a write changes the thread alone
 pub gives : {M : Type 0} (g : Ghosts M) (t next : Thread) (memory : M)
     → Executes g (Give next None) t next memory memory (Ok tt)
-unfolding effect looked
+unfolding effect looked_addresses
 gives g t next memory = record {
   comes = (refl, refl);
   keeps = record { seen = refl; frames = refl; first = refl };
@@ -277,7 +280,7 @@ gives_is g t next to memory e = rw e (gives g t next memory)
 -- cause General
 refuses : {M : Type 0} (g : Ghosts M) (t : Thread) (memory : M)
     → Executes g Refuse t t memory memory (Err (Fault General t.rip))
-unfolding effect looked
+unfolding effect looked_addresses
 refuses g t memory = record {
   comes = (refl, refl, refl);
   keeps = record { seen = refl; frames = refl; first = refl };

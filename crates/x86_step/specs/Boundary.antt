@@ -9,11 +9,11 @@ use Rattle.erim_defs.specs.Machine.Access.{Seen, whole}
 use Rattle.erim_defs.specs.Machine.Plan.{Plan, Effect, Stopped, effect}
 use Rattle.page_store.specs.Answers.{fetch_of}
 use Rattle.page_store.specs.Notes.{NoteMap, Notes, looked_fetch}
-use Rattle.x86_step.specs.Looked.{looked}
+use Rattle.x86_step.specs.Looked.{looked_addresses}
 
 -- ---- two memories that agree
 
--- What is asked of another memory at an address, by what both tell of its page and the byte there:
+-- What is asked of another memory at an address, by what both say of its page and the byte there:
 -- nothing where the page isn't held; that it isn't mapped there either, where it isn't mapped; the
 -- same rights and the same byte where it is mapped.
 abbrev pub AgreesAt : Option (Option Rights) → Option (Option Rights) → ℕ → ℕ → Type 0
@@ -45,7 +45,7 @@ abbrev pub Boundary : Type 0
 Boundary = (p : Plan) (seen : Seen) (bytes : ByteMap) (other : Seen) (other_bytes : ByteMap)
     (pkru rip : ℕ)
     → NoneMissing (effect p seen bytes pkru rip)
-    → Agree seen bytes other other_bytes (looked p seen bytes pkru)
+    → Agree seen bytes other other_bytes (looked_addresses p seen bytes pkru)
     → effect p other other_bytes pkru rip ≡ effect p seen bytes pkru rip
 
 -- and on every memory that agrees at all noted addresses, where what it looked at was noted
@@ -53,7 +53,7 @@ abbrev pub NotedBoundary : Type 0
 NotedBoundary = (p : Plan) (seen : Seen) (bytes : ByteMap) (other : Seen) (other_bytes : ByteMap)
     (pkru rip : ℕ) (old notes : NoteMap)
     → NoneMissing (effect p seen bytes pkru rip)
-    → Notes seen old notes (looked p seen bytes pkru)
+    → Notes seen old notes (looked_addresses p seen bytes pkru)
     → AgreesOn notes seen bytes other other_bytes
     → effect p other other_bytes pkru rip ≡ effect p seen bytes pkru rip
 

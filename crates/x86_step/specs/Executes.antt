@@ -7,7 +7,7 @@ use Rattle.erim_defs.specs.Machine.Plan.{Plan, Write, Effect, Done, Stopped, Cal
 use Rattle.erim_defs.specs.Machine.Plan.{bytes_after_write}
 use Rattle.page_store.specs.Notes.{Notes}
 use Rattle.page_store.specs.declared.memory.Memory.{Ghosts}
-use Rattle.x86_step.specs.Looked.{looked}
+use Rattle.x86_step.specs.Looked.{looked_addresses}
 
 abbrev pub write_of : Effect → Option Write
 write_of (Done t w) = w
@@ -33,7 +33,7 @@ pub record Executes {M : Type 0} (g : Ghosts M) (p : Plan) (from to : Thread) (m
       (g.bytes memory) (g.bytes after)
   pub keeps : Keeps g memory after
   pub notes : Notes (g.seen memory) (g.notes memory) (g.notes after)
-      (looked p (g.seen memory) (g.bytes memory) from.pkru)
+      (looked_addresses p (g.seen memory) (g.bytes memory) from.pkru)
 
 -- A number was got: a plan that goes on with it is executed by what comes after. An access that
 -- stopped stops the plan.

@@ -3,4 +3,4 @@ pub mod Executes
 pub mod Execution
 pub mod Fits
 pub mod Looked
-pub mod Placed
+pub mod Reach

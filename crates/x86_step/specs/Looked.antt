@@ -10,9 +10,10 @@ looked_write None seen pkru = []
 looked_write (Some w) seen pkru = looked_access seen true pkru w.addr w.count
 
 -- the bytes that an instruction looks at, up to the first that stops it, that one too
-unfoldable pub looked : Plan → Seen → ByteMap → ℕ → List ℕ
-looked (Ask a n k) seen bytes pkru = looked_access seen false pkru a n
-    ++ unless_stopped (stop seen false pkru a n) (looked (k (word bytes a n)) seen bytes pkru)
-looked (Give t w) seen bytes pkru = looked_write w seen pkru
-looked Refuse seen bytes pkru = []
-looked Call seen bytes pkru = []
+unfoldable pub looked_addresses : Plan → Seen → ByteMap → ℕ → List ℕ
+looked_addresses (Ask a n k) seen bytes pkru = looked_access seen false pkru a n
+    ++ unless_stopped (stop seen false pkru a n) (looked_addresses (k
+    (word bytes a n)) seen bytes pkru)
+looked_addresses (Give t w) seen bytes pkru = looked_write w seen pkru
+looked_addresses Refuse seen bytes pkru = []
+looked_addresses Call seen bytes pkru = []

@@ -8,6 +8,8 @@
 ghost use Rattle.x86_step.specs.Boundary.{Boundary, NotedBoundary, FetchBoundary};
 ghost use Rattle.x86_step.specs.Boundary.{NotedFetchBoundary, WholeFetchBoundary};
 
+use page_store::whole_fetch;
+
 /// Unless it misses a page, an instruction has the same effect on every memory that agrees on the
 /// bytes that it looked at: the same thread and the same write, the same fault, or a system call.
 /// So it has on every memory that agrees at all noted addresses, where what it looked at was noted.
@@ -23,4 +25,6 @@ pub fn fetch_boundary()
     ensures looked { FetchBoundary }
     ensures noted { NotedFetchBoundary }
     ensures whole { WholeFetchBoundary }
-{}
+{
+    whole_fetch();
+}

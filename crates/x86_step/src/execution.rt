@@ -10,8 +10,8 @@ ghost use Rattle.erim_defs.specs.Machine.Meaning.{plan};
 ghost use Rattle.page_store.specs.Notes.{Notes};
 ghost use Rattle.x86_step.specs.Execution.{bytes_after, exec_of, thread_after};
 ghost use Rattle.x86_step.specs.Executes.{Executes};
-ghost use Rattle.x86_step.specs.Looked.{looked};
-ghost use Rattle.x86_step.specs.Placed.{IsPlaced};
+ghost use Rattle.x86_step.specs.Looked.{looked_addresses};
+ghost use Rattle.x86_step.specs.Reach.{IsInReach};
 
 use crate::answer::Exec;
 use crate::arithmetic::{exec_alu, exec_bt, exec_imul, exec_shift, exec_test, exec_unary};
@@ -23,7 +23,7 @@ use crate::moves::{
     exec_cmov, exec_lea, exec_mov, exec_mov_wide, exec_movsx, exec_movzx, exec_set, exec_spread,
     exec_widen, exec_xchg, extended_bytes,
 };
-use crate::origin::{is_free, is_inside, is_outside, sequence_of, set_origin};
+use crate::origin::{is_inside, is_outside, sequence_of, set_origin, writes_pkru};
 use crate::registers::{jump, onward, set_register};
 use crate::rights::{exec_rdpkru, exec_wrpkru, if_allowed};
 use crate::xrstor::exec_xrstor;
@@ -92,7 +92,7 @@ fn execute<M: Memory>(
 }
 
 /// What is answered where an access stopped.
-fn stopped(access: Access) -> Exec
+fn stop_answer(access: Access) -> Exec
     ensures { (trust : TrustValue) (insn : Insn) (t : Thread)
         → result ≡ exec_of (Stopped access) trust insn t }
 {
@@ -112,7 +112,7 @@ pub fn exec<M: Memory>(
     thread: &mut Thread,
     memory: &mut M,
 ) -> Exec
-    requires placed { IsPlaced thread.old.rip len skip }
+    requires placed { IsInReach thread.old.rip len skip }
     requires spare { 10 ≤ M.spare memory.old }
     ensures answer { let e = effect (plan insn.now len thread.old) (M.seen memory.old)
         (M.bytes memory.old) thread.old.pkru thread.old.rip in
@@ -129,17 +129,17 @@ pub fn exec<M: Memory>(
     ensures first { M.first memory.new ≡ M.first memory.old }
     ensures spare { M.spare memory.old ≤ M.spare memory.new + 10 }
     ensures notes { Notes (M.seen memory.old) (M.notes memory.old) (M.notes memory.new)
-        (looked (plan insn.now len thread.old) (M.seen memory.old) (M.bytes memory.old)
+        (looked_addresses (plan insn.now len thread.old) (M.seen memory.old) (M.bytes memory.old)
         thread.old.pkru) }
 {
     if let Insn::Syscall = insn {
         return Exec::Syscall;
     }
     let executed = sequence_of(insn, thread.rip, len, skip);
-    let free = is_free(insn, thread);
+    let free = writes_pkru(insn, thread);
     let inside = is_inside(trust, thread);
     match execute(insn, len, thread, memory) {
-        Err(access) => stopped(access),
+        Err(access) => stop_answer(access),
         Ok(()) => {
             let escaped = !free && inside && is_outside(trust, thread);
             set_origin(trust, executed, thread);

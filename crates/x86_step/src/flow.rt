@@ -15,7 +15,7 @@ use erim_defs::{Access, Place, Src, Thread, Width};
 use page_store::Memory;
 use x86_alu::condition;
 
-/// Raises RSP to behind the number in the 8 bytes that a register names.
+/// Raises RSP to after the number in the 8 bytes that a register names.
 fn raise(thread: &mut Thread, r: u8)
     ensures { thread.new ≡ with_register thread.old RSP (raised_rsp (register thread.old r)) }
 {
@@ -23,8 +23,8 @@ fn raise(thread: &mut Thread, r: u8)
     set_register(thread, RSP, rsp);
 }
 
-/// RSP behind a number that is pushed.
-fn lowered(thread: &Thread) -> u64
+/// RSP after a number that is pushed.
+fn lowered_rsp(thread: &Thread) -> u64
     ensures { result ≡ lowered_rsp (register thread.now RSP) }
 {
     register(thread, RSP).wrapping_sub(8)
@@ -34,7 +34,7 @@ fn lowered(thread: &Thread) -> u64
 fn lower(thread: &mut Thread)
     ensures { thread.new ≡ with_register thread.old RSP (lowered_rsp (register thread.old RSP)) }
 {
-    let rsp = lowered(thread);
+    let rsp = lowered_rsp(thread);
     set_register(thread, RSP, rsp);
 }
 
@@ -46,7 +46,7 @@ fn store_pushed<M: Memory>(value: u64, thread: &Thread, memory: &mut M) -> Resul
         (λ next. next) thread.now memory.old memory.new result }
     ensures spare { M.spare memory.old ≤ M.spare memory.new + 1 }
 {
-    store_bytes(8, lowered(thread), value, thread, memory)
+    store_bytes(8, lowered_rsp(thread), value, thread, memory)
 }
 
 /// Pushes a value, and goes on at `rip`.

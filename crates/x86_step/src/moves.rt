@@ -193,7 +193,7 @@ pub(crate) fn exec_set<M: Memory>(
 }
 
 /// The lower half of a number, signed, to the width.
-fn widened(w: Width, x: u64) -> u64
+fn sign_extended_half(w: Width, x: u64) -> u64
     ensures value { let half = byte_count w / 2 in
         result ≡ low_bytes (byte_count w) (sign_extended half (low_bytes half x)) }
     ensures fits { Fits w result }
@@ -210,7 +210,7 @@ fn widened(w: Width, x: u64) -> u64
 pub(crate) fn exec_widen(w: Width, len: u8, thread: &mut Thread)
     ensures { plan_widen w len thread.old ≡ Give thread.new None }
 {
-    let value = widened(w, register(thread, RAX));
+    let value = sign_extended_half(w, register(thread, RAX));
     onward(thread, len);
     set_low(w, thread, RAX, value);
 }

@@ -40,7 +40,7 @@ fn index_value(index: Option<u8>, thread: &Thread) -> u64
 
 /// A number times a power of two, modulo 2^64.
 #[tactic(auto, using(crate::proofs::WordLemmas::scaled_out))]
-fn scaled(x: u64, scale: u8) -> u64
+fn scaled_index(x: u64, scale: u8) -> u64
     ensures { result ≡ (x * 2 ^ scale) % 2 ^ 64 }
 {
     if scale < 64 {
@@ -54,7 +54,7 @@ fn scaled(x: u64, scale: u8) -> u64
 pub(crate) fn address(m: &Mem, len: u8, thread: &Thread) -> u64
     ensures { result ≡ address m.now len thread.now }
 {
-    let index = scaled(index_value(m.index, thread), m.scale);
+    let index = scaled_index(index_value(m.index, thread), m.scale);
     base_value(m.base, len, thread)
         .wrapping_add(index)
         .wrapping_add(i64::from(m.disp).cast_unsigned())

@@ -2,8 +2,8 @@
 
 ghost use Rattle.std.specs.Prelude.{◌≡◌};
 ghost use Rattle.erim_defs.specs.Machine.State.{is_escape, is_inside, is_outside, with_origin};
-ghost use Rattle.erim_defs.specs.Machine.Step.{is_free, sequence_of};
-ghost use Rattle.x86_step.specs.Placed.{IsPlaced};
+ghost use Rattle.erim_defs.specs.Machine.Step.{writes_pkru, sequence_of};
+ghost use Rattle.x86_step.specs.Reach.{IsInReach};
 
 use crate::xrstor::asks_pkru;
 use erim_defs::{Found, Insn, SeqKind, Thread, Trust};
@@ -44,7 +44,7 @@ pub fn set_origin(trust: &Trust, executed: Option<Found>, thread: &mut Thread)
 
 /// The sequence that an instruction at `rip` is, if it is one.
 pub(crate) fn sequence_of(insn: &Insn, rip: u64, len: u8, skip: u8) -> Option<Found>
-    requires placed { IsPlaced rip len skip }
+    requires placed { IsInReach rip len skip }
     ensures { result ≡ sequence_of (record { insn = insn.now; len = len; skip = skip }) rip }
 {
     let kind = match insn {
@@ -60,8 +60,8 @@ pub(crate) fn sequence_of(insn: &Insn, rip: u64, len: u8, skip: u8) -> Option<Fo
 }
 
 /// May the thread be open and not at home after this instruction without an escape?
-pub(crate) fn is_free(insn: &Insn, thread: &Thread) -> bool
-    ensures { result ≡ is_free insn.now thread.now }
+pub(crate) fn writes_pkru(insn: &Insn, thread: &Thread) -> bool
+    ensures { result ≡ writes_pkru insn.now thread.now }
 {
     match insn {
         Insn::Wrpkru => true,

@@ -128,7 +128,7 @@ pub(crate) fn next_rip(thread: &Thread, len: u8) -> u64
     thread.rip.wrapping_add(u64::from(len))
 }
 
-/// Goes on behind an instruction of so many bytes.
+/// Goes on after an instruction of a given length.
 pub fn onward(thread: &mut Thread, len: u8)
     ensures { thread.new ≡ onward len thread.old }
 {
@@ -143,14 +143,14 @@ pub(crate) fn onward_with(thread: &mut Thread, len: u8, flags: Flags)
     thread.flags = flags;
 }
 
-/// Where a relative jump from behind an instruction of so many bytes leads.
+/// Where a relative jump leads, counted from the end of an instruction of a given length.
 pub(crate) fn jump_target(thread: &Thread, len: u8, rel: i32) -> u64
     ensures { result ≡ (thread.now.rip + len + cast_unsigned w64 rel) % 2 ^ 64 }
 {
     next_rip(thread, len).wrapping_add(i64::from(rel).cast_unsigned())
 }
 
-/// Jumps so far from behind an instruction of so many bytes.
+/// Jumps by a distance from the end of an instruction of a given length.
 pub(crate) fn jump(thread: &mut Thread, len: u8, rel: i32)
     ensures { thread.new ≡ jump len rel thread.old }
 {

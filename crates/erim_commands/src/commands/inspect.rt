@@ -7,7 +7,7 @@ ghost use Rattle.erim_defs.specs.Output.Words.{Inspect};
 ghost use Rattle.erim_commands.specs.CallParts.{reply_of};
 ghost use Rattle.erim_commands.specs.Commands.{plan_of};
 ghost use Rattle.erim_commands.specs.Delivery.{Carries, world};
-ghost use Rattle.erim_commands.specs.Replies.{IsAnswer, list_status, listed_reply};
+ghost use Rattle.erim_commands.specs.Replies.{IsAnswer, list_status, list_reply};
 
 use crate::delivery::conclude;
 use crate::loads::load_image;
@@ -20,7 +20,7 @@ use std::alloc::Global;
 
 /// The unsafe list of an image, with its status.
 fn list_reply<'a>(alloc: Global, image: &Image) -> Result<Reply<'a>, NoMemory>
-    ensures { IfOk result (λ reply. reply_of reply ≡ listed_reply (image_list image.now)) }
+    ensures { IfOk result (λ reply. reply_of reply ≡ list_reply (image_list image.now)) }
 {
     let list = inspection(alloc, image)?;
     Ok(Reply {
@@ -30,7 +30,7 @@ fn list_reply<'a>(alloc: Global, image: &Image) -> Result<Reply<'a>, NoMemory>
     })
 }
 
-/// The status of a list of so many elements.
+/// The status of a list of a given number of elements.
 fn list_status(count: u64) -> Status
     ensures { (os : List Found) → length os ≡ count → result ≡ list_status os }
 {

@@ -6,15 +6,15 @@ ghost use Rattle.erim_defs.specs.Output.Journal.{IsJournal};
 ghost use Rattle.erim_defs.specs.Output.Words.{Replay};
 ghost use Rattle.erim_process.specs.ProcessValue.{state_of};
 ghost use Rattle.erim_commands.specs.declared.reply.Status.TheVariants.{JournalRefused};
-ghost use Rattle.erim_commands.specs.CallParts.{IsMadeFor, reply_of};
+ghost use Rattle.erim_commands.specs.CallParts.{IsReplyFor, reply_of};
 ghost use Rattle.erim_commands.specs.Commands.{plan_of, replay_setup, started_replay};
 ghost use Rattle.erim_commands.specs.Delivery.{Carries, world};
-ghost use Rattle.erim_commands.specs.Replies.{IsAnswer, IsReplayReply, break_text, told};
+ghost use Rattle.erim_commands.specs.Replies.{IsAnswer, IsReplayReply, break_text, line_reply};
 
 use crate::delivery::conclude;
-use crate::loads::{load_image, load_journal, refused};
+use crate::loads::{line_reply, load_image, load_journal};
 use crate::reply::{Reply, Status};
-use crate::runs::{end_status, unstarted};
+use crate::runs::{end_status, start_refusal_reply};
 use crate::text::break_line;
 use elf_image::Image;
 use erim_defs::NoMemory;
@@ -26,7 +26,11 @@ use std::alloc::Global;
 use thread_runner::{ReplayFault, replay as replay_journal};
 
 /// The report of a process that was led to by a journal.
-fn reported<'a>(alloc: Global, process: &Process, journal: &Journal) -> Result<Reply<'a>, NoMemory>
+fn report_reply<'a>(
+    alloc: Global,
+    process: &Process,
+    journal: &Journal,
+) -> Result<Reply<'a>, NoMemory>
     requires runs { replay process.now.setup journal.now.entries ≡ Some (state_of process.now) }
     requires over { IsOver (state_of process.now) }
     requires form { IsJournal journal.now }
@@ -43,11 +47,12 @@ fn reported<'a>(alloc: Global, process: &Process, journal: &Journal) -> Result<R
 }
 
 /// The reply of a command whose journal breaks at a step.
-fn broken<'a>(alloc: Global, fault: &ReplayFault) -> Result<Reply<'a>, NoMemory>
-    ensures { IfOk result (λ reply. reply_of reply ≡ told JournalRefused (break_text fault.now)) }
+fn break_reply<'a>(alloc: Global, fault: &ReplayFault) -> Result<Reply<'a>, NoMemory>
+    ensures { IfOk result (λ reply.
+        reply_of reply ≡ line_reply JournalRefused (break_text fault.now)) }
 {
     match break_line(alloc, fault) {
-        Ok(line) => Ok(refused(Status::JournalRefused, line)),
+        Ok(line) => Ok(line_reply(Status::JournalRefused, line)),
         Err(NoMemory) => Err(NoMemory),
     }
 }
@@ -55,7 +60,7 @@ fn broken<'a>(alloc: Global, fault: &ReplayFault) -> Result<Reply<'a>, NoMemory>
 /// Runs the image by the journal, or says why that can't be done.
 fn started_reply<'a>(alloc: Global, image: Image, journal: &Journal) -> Result<Reply<'a>, NoMemory>
     requires { IsJournal journal.now }
-    ensures { IsMadeFor
+    ensures { IsReplyFor
         (started_replay (replay_setup image journal.now) journal.now.entries) result }
 {
     let setup = Setup {
@@ -64,10 +69,10 @@ fn started_reply<'a>(alloc: Global, image: Image, journal: &Journal) -> Result<R
         frames: journal.frames,
     };
     match replay_journal(alloc, setup, journal) {
-        Ok(process) => reported(alloc, &process, journal),
+        Ok(process) => report_reply(alloc, &process, journal),
         Err(ReplayFault::Start(StartFault::Memory)) => Err(NoMemory),
-        Err(ReplayFault::Start(fault)) => unstarted(alloc, &fault),
-        Err(fault) => broken(alloc, &fault),
+        Err(ReplayFault::Start(fault)) => start_refusal_reply(alloc, &fault),
+        Err(fault) => break_reply(alloc, &fault),
     }
 }
 

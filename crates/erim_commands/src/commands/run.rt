@@ -1,13 +1,15 @@
 //! `run`: runs an image, saves the journal of the run, and prints its report.
 
 ghost use Rattle.std.specs.Prelude.{◌≤◌, IfOk};
+ghost use Rattle.erim_defs.specs.declared.limits.TheConstants.{LEAST_FRAMES, MOST_FRAMES};
+ghost use Rattle.erim_defs.specs.declared.limits.TheConstants.{MOST_STEPS};
 ghost use Rattle.erim_defs.specs.Machine.Replay.{IsOver};
 ghost use Rattle.erim_defs.specs.Output.Report.{report};
 ghost use Rattle.erim_defs.specs.Output.Words.{Run};
 ghost use Rattle.command_words.specs.Commands.{AreRunNumbers};
 ghost use Rattle.erim_process.specs.ProcessValue.{state_of};
-ghost use Rattle.thread_runner.specs.Running.{AreAlone};
-ghost use Rattle.erim_commands.specs.CallParts.{IsMadeFor, reply_of};
+ghost use Rattle.erim_defs.specs.Machine.Replay.{AreAlone};
+ghost use Rattle.erim_commands.specs.CallParts.{IsReplyFor, reply_of};
 ghost use Rattle.erim_commands.specs.Commands.{plan_of, run_setup, started_run};
 ghost use Rattle.erim_commands.specs.Delivery.{Carries, world};
 ghost use Rattle.erim_commands.specs.Replies.{IsAnswer, IsRunReply};
@@ -15,9 +17,10 @@ ghost use Rattle.erim_commands.specs.Replies.{IsAnswer, IsRunReply};
 use crate::delivery::conclude;
 use crate::loads::load_image;
 use crate::reply::Reply;
-use crate::runs::{QUANTUM, run_reply, unstarted};
+use crate::runs::{run_reply, start_refusal_reply};
 use elf_image::Image;
 use erim_defs::NoMemory;
+use erim_defs::limits::QUANTUM;
 use erim_io::{Sink, Store};
 use erim_process::{Process, Setup, StartFault};
 use report_text::report;
@@ -25,7 +28,11 @@ use std::alloc::Global;
 use thread_runner::run_serial;
 
 /// The report of a process that has run, and its journal, which is to be saved under the name.
-fn reported<'a>(alloc: Global, process: &Process, journal: &'a str) -> Result<Reply<'a>, NoMemory>
+fn report_reply<'a>(
+    alloc: Global,
+    process: &Process,
+    journal: &'a str,
+) -> Result<Reply<'a>, NoMemory>
     requires over { IsOver (state_of process.now) }
     requires alone { AreAlone process.now.journal }
     ensures { IfOk result (λ reply.
@@ -44,11 +51,11 @@ fn started_reply<'a>(
     frames: u32,
 ) -> Result<Reply<'a>, NoMemory>
     requires some_steps { 1 ≤ steps }
-    requires few_steps { steps ≤ 4194304 }
-    requires some_frames { 64 ≤ frames }
-    requires few_frames { frames ≤ 4096 }
+    requires few_steps { steps ≤ MOST_STEPS }
+    requires some_frames { LEAST_FRAMES ≤ frames }
+    requires few_frames { frames ≤ MOST_FRAMES }
     ensures { let setup = run_setup image steps frames in
-        IsMadeFor (started_run report journal.entry.now setup) result }
+        IsReplyFor (started_run report journal.entry.now setup) result }
 {
     let setup = Setup {
         image,
@@ -56,9 +63,9 @@ fn started_reply<'a>(
         frames,
     };
     match run_serial(alloc, setup, QUANTUM) {
-        Ok(process) => reported(alloc, &process, journal),
+        Ok(process) => report_reply(alloc, &process, journal),
         Err(StartFault::Memory) => Err(NoMemory),
-        Err(fault) => unstarted(alloc, &fault),
+        Err(fault) => start_refusal_reply(alloc, &fault),
     }
 }
 

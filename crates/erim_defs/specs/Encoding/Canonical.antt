@@ -97,7 +97,7 @@ rex_of asked w r x b = if asked || w || r || x || b then Some (rex_byte w r x b)
 unfoldable pub opcode_bytes : Bool → ℕ → List ℕ
 opcode_bytes escape op = if escape then 0x0F ∷ op ∷ [] else op ∷ []
 
--- an even opcode is of width 1, and the odd one behind it of the others
+-- an even opcode is of width 1, and the odd one after it of the others
 unfoldable pub opcode_of_width : Width → ℕ → ℕ
 opcode_of_width W1 op = op
 opcode_of_width W4 op = op + 1

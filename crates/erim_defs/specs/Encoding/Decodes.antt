@@ -1,4 +1,4 @@
--- What bytes begin with. Own: the SDM tells whole instructions only.
+-- What bytes begin with. Own: the SDM speaks of whole instructions only.
 use Rattle.std.specs.Prelude.{◌≡◌, ℕ, ◌<◌, ◌≤◌, List, ◌++◌, length, take}
 use Rattle.erim_defs.specs.declared.insn.Decoded.{Decoded}
 use Rattle.erim_defs.specs.declared.insn.Decoded.TheVariants as outcomes

@@ -22,11 +22,11 @@ abbrev pub if_admitted : Lead → ℕ → Option Row → Option Row
 if_admitted lead m None = None
 if_admitted lead m (Some row) = if admits lead row m then Some row else None
 
--- the row at an opcode and the byte behind it
+-- the row at an opcode and the byte after it
 unfoldable pub row_at : Lead → Bool → ℕ → ℕ → Option Row
 row_at lead escape op m = if_admitted lead m (lookup table_lines escape lead.f3 lead.rex.w op m)
 
--- whether a ModRM byte stands behind an opcode
+-- whether a ModRM byte stands after an opcode
 unfoldable pub modrm_follows : Bool → ℕ → Bool
 modrm_follows escape op = any_modrm table_lines escape op
 
@@ -54,7 +54,7 @@ least_modrm rows (suc n) = sooner_stop (stop_of (rows n) n) (least_modrm rows n)
 unfoldable pub modrm_stop : Lead → Bool → ℕ → Stop
 modrm_stop lead escape op = least_modrm (row_at lead escape op) 256
 
--- behind an opcode without ModRM
+-- after an opcode without ModRM
 unfoldable pub without_modrm_at : Lead → ℕ → Option Row → List ℕ
     → Result (InsnAndSizes × List ℕ) Stop
 without_modrm_at lead op None bytes = Err Undefined
@@ -62,11 +62,11 @@ without_modrm_at lead op (Some row) bytes = do
   i ← chunk_at row.imm 0 bytes
   Ok (insn_and_sizes lead op 0 row (Reg 0, 0) i.0, i.1)
 
--- behind a ModRM byte m
-unfoldable pub behind_modrm_at : Lead → ℕ → ℕ → Option Row → List ℕ
+-- after a ModRM byte m
+unfoldable pub after_modrm_at : Lead → ℕ → ℕ → Option Row → List ℕ
     → Result (InsnAndSizes × List ℕ) Stop
-behind_modrm_at lead op m None bytes = Err Undefined
-behind_modrm_at lead op m (Some row) bytes = do
+after_modrm_at lead op m None bytes = Err Undefined
+after_modrm_at lead op m (Some row) bytes = do
   p ← operand_at lead.rex m row.imm bytes
   i ← chunk_at row.imm 0 p.1
   Ok (insn_and_sizes lead op m row p.0 i.0, i.1)
@@ -75,9 +75,9 @@ behind_modrm_at lead op m (Some row) bytes = do
 unfoldable pub modrm_at : Lead → Bool → ℕ → List ℕ → Result (InsnAndSizes × List ℕ) Stop
 modrm_at lead escape op bytes = do
   m ← byte_at (modrm_stop lead escape op) bytes
-  behind_modrm_at lead op m.0 (row_at lead escape op m.0) m.1
+  after_modrm_at lead op m.0 (row_at lead escape op m.0) m.1
 
--- behind an opcode
+-- after an opcode
 unfoldable pub tail_at : Lead → Bool → ℕ → List ℕ → Result (InsnAndSizes × List ℕ) Stop
 tail_at lead escape op bytes =
     if modrm_follows escape op then modrm_at lead escape op bytes else
@@ -94,7 +94,7 @@ least_body false false false true = Short 1
 least_body false false false false = Short 1
 least_body l s f b = Undefined
 
--- the same behind 0F, by F0, 66 and F3
+-- the same after 0F, by F0, 66 and F3
 unfoldable pub least_second : Bool → Bool → Bool → Stop
 least_second true false false = Short 2
 least_second false true false = Short 2
@@ -102,7 +102,7 @@ least_second false false true = Short 2
 least_second false false false = Short 1
 least_second l s f = Undefined
 
--- behind the escape opcode 0F
+-- after the escape opcode 0F
 abbrev pub escaped_at : Lead → List ℕ → Result (InsnAndSizes × List ℕ) Stop
 escaped_at lead bytes = do
   op ← byte_at (least_second lead.lock lead.size_prefix lead.f3) bytes
@@ -127,7 +127,7 @@ unfoldable pub f3_at : Lead → List ℕ → Result (InsnAndSizes × List ℕ) S
 f3_at lead [] = rex_at lead []
 f3_at lead (b ∷ rest) = if b == 0xF3 then rex_at (with_f3 lead) rest else rex_at lead (b ∷ rest)
 
--- behind n prefixes
+-- after n prefixes
 unfoldable pub front_at : ℕ → Bool → Bool → List ℕ → Result (InsnAndSizes × List ℕ) Stop
 front_at n lock size_prefix [] = f3_at (prefix_lead n lock size_prefix) []
 front_at n lock size_prefix (b ∷ rest) =

@@ -86,7 +86,7 @@ insn_and_sizes lead op m row place imm =
 abbrev pub Rest : Lead → ℕ → ℕ → Row → Place × ℕ → List ℕ → InsnAndSizes → Type 0
 Rest lead op m row place = Chunk row.imm (λ imm. Nothing (insn_and_sizes lead op m row place imm))
 
--- behind the opcode
+-- after the opcode
 abbrev pub After : Line → Lead → ℕ → List ℕ → InsnAndSizes → Type 0
 After line lead op =
     Choose (has_modrm line.ask)
@@ -99,17 +99,17 @@ abbrev pub at_line : Line → Lead → ℕ → Bool
 at_line line lead op =
     in_line line line.escape op && (same_bool line.f3 lead.f3 && w_fits line.w lead.rex.w)
 
--- the opcode without the escape opcode 0F, and what is behind it
+-- the opcode without the escape opcode 0F, and what is after it
 abbrev pub Opcode : Line → Lead → List ℕ → InsnAndSizes → Type 0
 Opcode line lead =
     Byte (λ op. When (at_line line lead op) (After line lead op))
 
--- behind 0F or not
+-- after 0F or not
 abbrev pub Escaped : Bool → (List ℕ → InsnAndSizes → Type 0) → List ℕ → InsnAndSizes → Type 0
 Escaped true R = Byte (λ b. When (b == 0x0F) R)
 Escaped false R = R
 
--- opcode and operands, behind such prefixes, by some line of the table
+-- opcode and operands, after such prefixes, by some line of the table
 abbrev pub Body : Lead → List ℕ → InsnAndSizes → Type 0
 Body lead encoding a =
     (line : Line) × In table_lines line × Escaped line.escape (Opcode line lead) encoding a

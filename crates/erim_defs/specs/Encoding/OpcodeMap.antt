@@ -108,7 +108,7 @@ one_byte_row f3 w op m =
     if within 0x40 0xBF op then middle_opcode_row w op m else
     high_opcode_row op m
 
--- rows of opcodes behind the escape opcode 0F
+-- rows of opcodes after the escape opcode 0F
 unfoldable pub two_byte_row : Bool → ℕ → ℕ → Option Row
 two_byte_row f3 op m =
     let reg = m / 8 % 8 in
@@ -134,7 +134,7 @@ two_byte_row f3 op m =
     if op == 0xC0 || op == 0xC1 then Some (with_lock (plain_row (Exchange XaddMr) 0)) else
     None
 
--- whether a ModRM byte stands behind an opcode of one byte
+-- whether a ModRM byte stands after an opcode of one byte
 unfoldable pub one_byte_has_modrm : ℕ → Bool
 one_byte_has_modrm op =
     if within 0x00 0x3F op then nat_lt (op % 8) 4 else
@@ -142,7 +142,7 @@ one_byte_has_modrm op =
     within 0x84 0x8B op || op == 0x8D || op == 0xC0 || op == 0xC1 || op == 0xC6 || op == 0xC7 ||
     within 0xD0 0xD3 op || op == 0xF6 || op == 0xF7 || op == 0xFE || op == 0xFF
 
--- the same behind 0F
+-- the same after 0F
 unfoldable pub two_byte_has_modrm : ℕ → Bool
 two_byte_has_modrm op =
     op == 0x01 || op == 0x1E || op == 0x1F || within 0x40 0x4F op || within 0x90 0x9F op ||

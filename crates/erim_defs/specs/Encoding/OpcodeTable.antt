@@ -39,7 +39,7 @@ with_size_prefix r = record r { size_prefix = true }
 abbrev pub without_rex_b : Row → Row
 without_rex_b r = record r { low = true }
 
--- what a line asks of the byte behind its opcode: nothing, a ModRM byte, one with this opcode
+-- what a line asks of the byte after its opcode: nothing, a ModRM byte, one with this opcode
 -- extension in reg ("/0" to "/7"), one with memory, one with this extension and memory, or this
 -- very byte
 pub data Ask : Type 0 where
@@ -50,7 +50,7 @@ pub data Ask : Type 0 where
   Memory : (reg : ℕ) → Ask
   Exactly : (m : ℕ) → Ask
 
--- a line of the table: count opcodes from here on, behind the escape opcode 0F or not, with F3 or
+-- a line of the table: count opcodes from here on, after the escape opcode 0F or not, with F3 or
 -- not, with REX.W or without or either; what it asks of ModRM; and the row that they have
 pub record Line : Type 0 where
   pub escape : Bool
@@ -74,7 +74,7 @@ one_byte_opcode from count ask row =
       row = row;
     }
 
--- opcodes behind the escape opcode 0F
+-- opcodes after the escape opcode 0F
 abbrev pub two_byte_opcode : ℕ → ℕ → Ask → Row → Line
 two_byte_opcode from count ask row =
     record { escape = true; f3 = false; w = None; from = from; count = count; ask = ask; row = row }
@@ -83,7 +83,7 @@ two_byte_opcode from count ask row =
 abbrev pub with_w : Bool → Line → Line
 with_w w line = record line { w = Some w }
 
--- behind F3
+-- after F3
 abbrev pub behind_f3 : Line → Line
 behind_f3 line = record line { f3 = true }
 
@@ -212,7 +212,7 @@ lookup [] escape f3 w op m = None
 lookup (line ∷ ls) escape f3 w op m =
     if hit line escape f3 w op m then Some line.row else lookup ls escape f3 w op m
 
--- some line of the opcode asks for a byte behind it
+-- some line of the opcode asks for a byte after it
 abbrev pub any_modrm : List Line → Bool → ℕ → Bool
 any_modrm [] escape op = false
 any_modrm (line ∷ ls) escape op =

@@ -1,7 +1,7 @@
--- The check behind a sequence that writes PKRU: behind WRPKRU it ends the program unless PKRU was
--- closed, behind XRSTOR unless PKRU stayed as it was, which bit 9 of EAX tells. ERIM (USENIX
--- Security 2019), section 3; SDM volume 2, CMP, BT, Jcc, MOV and SYSCALL; Linux on x86-64,
--- exit_group. The bytes of the check behind XRSTOR are own.
+-- The check after a sequence that writes PKRU: after WRPKRU it ends the program unless PKRU was
+-- closed, after XRSTOR unless PKRU stayed as it was, which bit 9 of EAX says. ERIM (USENIX Security
+-- 2019), section 3; SDM volume 2, CMP, BT, Jcc, MOV and SYSCALL; Linux on x86-64, exit_group. The
+-- bytes of the check after XRSTOR are own.
 use Rattle.std.specs.Prelude.{ℕ, List, [], ◌∷◌, ◌++◌, length, pos, false, if◌then◌else◌}
 use Rattle.std.specs.Int.{w32, to_le_bytes, cast_signed}
 use Rattle.erim_defs.specs.declared.found.SeqKind.{SeqKind}
@@ -20,10 +20,10 @@ use Rattle.erim_defs.specs.Inspection.Trust.{TrustValue, entry_key, pkru_of}
 abbrev pub closed_value : TrustValue → ℕ
 closed_value trust = pkru_of trust 0
 
--- what the check compares with: the value that opens the domain whose entry is behind the sequence,
+-- what the check compares with: the value that opens the domain whose entry is after the sequence,
 -- where an entry isn't enough, else the closed value
-abbrev pub compared : TrustValue → ℕ → ℕ
-compared trust next = pkru_of trust (if trust.strict then entry_key trust next else 0)
+abbrev pub compared_value : TrustValue → ℕ → ℕ
+compared_value trust next = pkru_of trust (if trust.strict then entry_key trust next else 0)
 
 -- the instructions of a check, in order: the comparison, the branch over the rest, the number of
 -- the call, the call
@@ -41,7 +41,7 @@ pkru_bit = 9
 -- bt eax, 9; jae over the rest; and the same end. `next` is the address after the sequence.
 abbrev pub check_insn : TrustValue → SeqKind → ℕ → Position → Insn
 check_insn trust Wrpkru next Compare =
-    Alu Cmp W4 (Reg RAX) (Imm (cast_signed w32 (compared trust next))) false
+    Alu Cmp W4 (Reg RAX) (Imm (cast_signed w32 (compared_value trust next))) false
 check_insn trust Wrpkru next Branch = Jcc 4 (pos 7)
 check_insn trust Wrpkru next Number = Mov W4 (Reg RAX) (Imm (pos SYS_EXIT_GROUP))
 check_insn trust Wrpkru next Leave = Syscall
@@ -52,7 +52,7 @@ check_insn trust Xrstor next Leave = Syscall
 
 -- their bytes
 abbrev pub check_bytes : TrustValue → SeqKind → ℕ → Position → List ℕ
-check_bytes trust Wrpkru next Compare = 0x3D ∷ to_le_bytes w32 (compared trust next)
+check_bytes trust Wrpkru next Compare = 0x3D ∷ to_le_bytes w32 (compared_value trust next)
 check_bytes trust Wrpkru next Branch = 0x74 ∷ 0x07 ∷ []
 check_bytes trust Wrpkru next Number = 0xB8 ∷ to_le_bytes w32 SYS_EXIT_GROUP
 check_bytes trust Wrpkru next Leave = 0x0F ∷ 0x05 ∷ []
@@ -75,7 +75,7 @@ bytes_before trust kind next Leave =
 abbrev pub position_start : TrustValue → SeqKind → ℕ → Position → ℕ
 position_start trust kind next p = length (bytes_before trust kind next p)
 
--- the check behind WRPKRU that compares with a value
+-- the check after WRPKRU that compares with a value
 abbrev pub check_to : ℕ → List ℕ
 check_to value =
     0x3D ∷ to_le_bytes w32 value

@@ -3,7 +3,6 @@
 use Rattle.std.specs.Prelude.{ℕ, ◌+◌, ◌==◌, List, [], ◌∷◌, ◌++◌, Option, Some, None, if◌then◌else◌}
 use Rattle.std.specs.Int.{w32, to_le_bytes}
 use Rattle.erim_defs.specs.declared.found.SeqKind.{SeqKind}
-use Rattle.erim_defs.specs.declared.found.SeqKind.TheVariants.{Wrpkru}
 use Rattle.erim_defs.specs.declared.found.Found.{Found}
 use Rattle.erim_defs.specs.Inspection.Check.{check_to, position_start}
 use Rattle.erim_defs.specs.Inspection.Check.{Compare, Branch, Number, Leave}
@@ -21,15 +20,15 @@ abbrev pub gate_to : ℕ → List ℕ
 gate_to value =
     0x31 ∷ 0xC9 ∷ 0x31 ∷ 0xD2 ∷ 0xB8 ∷ [] ++ to_le_bytes w32 value ++ (0x0F ∷ 0x01 ∷ 0xEF ∷ [])
 
--- behind it is an entry
-unfoldable pub gate_in : TrustValue → List ℕ
-gate_in trust = gate_to gate_in_value
+-- an entry is after it
+unfoldable pub gate_in : List ℕ
+gate_in = gate_to gate_in_value
 
 -- it ends with the check
-unfoldable pub gate_out : TrustValue → List ℕ
-gate_out trust = gate_to gate_out_value ++ check_to gate_out_value
+unfoldable pub gate_out : List ℕ
+gate_out = gate_to gate_out_value ++ check_to gate_out_value
 
--- the number of the instruction that begins at an address, in the check behind a sequence
+-- the number of the instruction that begins at an address, in the check after a sequence
 abbrev pub position_at : TrustValue → SeqKind → ℕ → ℕ → Option ℕ
 position_at trust kind next rip =
     if rip == next + position_start trust kind next Compare then Some 0 else

@@ -85,7 +85,7 @@ header_at bytes place = record {
   };
 }
 
--- so many headers of 56 bytes from a place on
+-- a given number of headers of 56 bytes from a place on
 unfoldable pub headers_from : List ℕ → ℕ → ℕ → List Header
 headers_from bytes place zero = []
 headers_from bytes place (suc n) = header_at bytes place ∷ headers_from bytes (place + 56) n
@@ -150,7 +150,7 @@ is_dynamic h = h.kind == PT_DYNAMIC || (h.kind == PT_INTERP || h.kind == PT_TLS)
 unfoldable pub static_fault : ℕ → List Header → List Header → Option ImageFault
 static_fault index seen hs = first_failing (λ _ h. not (is_dynamic h)) NotStatic index seen hs
 
--- the file part lies in a file of so many bytes
+-- the file part lies in a file of a given number of bytes
 abbrev pub is_in_file : ℕ → Segment → Bool
 is_in_file file_length s = nat_le (s.offset + s.filesz) file_length
 
@@ -163,8 +163,8 @@ abbrev pub is_in_user : Segment → Bool
 is_in_user s = nat_le s.filesz s.memsz
     && (nat_le LOWEST_ADDRESS s.vaddr && (nat_le (s.vaddr + s.memsz) (2 ^ 47) && is_off_stack s))
 
--- where each loadable segment of an accepted image lies, in a file of so many bytes: what the two
--- tests say, and some bytes
+-- where each loadable segment of an accepted image lies, in a file of a given number of bytes: what
+-- the two tests say, and some bytes
 pub record IsPlaced (file_length : ℕ) (s : Segment) : Type 0 where
   pub file : s.offset + s.filesz ≤ file_length
   pub part : s.filesz ≤ s.memsz
@@ -178,10 +178,10 @@ abbrev pub is_passed_over : Header → Bool
 is_passed_over h = h.segment.memsz == 0 && h.segment.filesz == 0
 
 -- 0 for what isn't a segment, else its pages
-abbrev pub pages_of : Header → ℕ
-pages_of h = if h.kind == PT_LOAD && not (is_passed_over h) then page_count h.segment else 0
+abbrev pub header_pages : Header → ℕ
+header_pages h = if h.kind == PT_LOAD && not (is_passed_over h) then page_count h.segment else 0
 
--- a PT_LOAD or PT_NOTE that lies where it may, where so many pages stand before it
+-- a PT_LOAD or PT_NOTE that lies where it may, where a given number of pages stand before it
 abbrev pub is_ranged : ℕ → ℕ → Header → Bool
 is_ranged file_length pages h =
     if h.kind == PT_NOTE then is_in_file file_length h.segment
@@ -192,7 +192,8 @@ is_ranged file_length pages h =
 -- the pages of the segments so far count, shared ones for each
 unfoldable pub range_fault : ℕ → ℕ → List Header → List Header → Option ImageFault
 range_fault file_length index seen hs =
-    first_failing (λ before h. is_ranged file_length (sum_by pages_of before) h) SegmentRange index
+    first_failing (λ before h. is_ranged file_length
+    (sum_by header_pages before) h) SegmentRange index
     seen hs
 
 abbrev pub shares_page : Segment → Segment → Bool
@@ -252,7 +253,8 @@ is_trust note = bytes_eq note.name (codes "ERIM" ++ 0 ∷ []) && note.kind == TR
 abbrev pub is_functions : Note → Bool
 is_functions note = bytes_eq note.name (codes "ERIMF" ++ 0 ∷ []) && note.kind == FUNCTIONS_NOTE
 
--- a desc: a version and a count of 4 bytes each, and so many items of so many bytes
+-- a desc: a version and a count of 4 bytes each, and a given number of items of a given number of
+-- bytes
 abbrev pub item_count : List ℕ → Note → ℕ
 item_count bytes note = number_at bytes (note.desc + NOTE_COUNT) 4
 
@@ -420,7 +422,7 @@ is_record domains seen r = is_keyed_record domains r && (if has_no_range r
 unfoldable pub record_fault : Bool → ℕ → List Record → List Record → Option ImageFault
 record_fault domains index seen rs = first_failing (is_record domains) BadRecord index seen rs
 
--- a test of each of so many pages
+-- a test of each of a given number of pages
 unfoldable pub all_pages : (ℕ → Bool) → ℕ → ℕ → Bool
 all_pages test page zero = true
 all_pages test page (suc n) = test page && all_pages test (page + 1) n
@@ -483,7 +485,7 @@ functions_in bytes (note ∷ others) =
     if is_functions note then functions_from bytes (note.desc + 8) (item_count bytes note)
     else functions_in bytes others
 
--- the functions that an image tells, in the order of the note
+-- the functions that an image lists, in the order of the note
 unfoldable pub image_functions : List ℕ → List Span
 image_functions bytes = functions_in bytes (notes bytes)
 

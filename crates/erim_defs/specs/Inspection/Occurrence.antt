@@ -29,7 +29,7 @@ wrpkru_at c a = if has (c (a + 1)) 0x01 && has (c (a + 2)) 0xEF
 abbrev pub is_xrstor_modrm : ℕ → Bool
 is_xrstor_modrm m = m / 8 % 8 == 5 && nat_lt m 192
 
--- 0F AE, the ModRM byte m, and what it asks for; sib is the byte behind it
+-- 0F AE, the ModRM byte m, and what it asks for; sib is the byte after it
 abbrev pub xrstor_len : ℕ → ℕ → ℕ
 xrstor_len m sib = 3 + (if has_sib m then 1 else 0) + disp_size m sib
 

@@ -17,12 +17,12 @@ unfoldable pub fits : Code → ℕ → List ℕ → Bool
 fits c a [] = true
 fits c a (x ∷ xs) = allows (c a) x && fits c (suc a) xs
 
--- is the address behind a sequence an entry of the trusted part, where that is enough after WRPKRU
+-- is the address after a sequence an entry of the trusted part, where that is enough after WRPKRU
 abbrev pub opens_gate : TrustValue → SeqKind → ℕ → Bool
 opens_gate trust Wrpkru next = not trust.strict && is_entry_of trust next
 opens_gate trust Xrstor next = false
 
--- an occurrence is safe where an entry follows, or nothing contradicts its check behind it
+-- an occurrence is safe where an entry follows, or nothing contradicts its check after it
 abbrev pub is_safe : TrustValue → Code → Found → Bool
 is_safe trust c o = opens_gate trust o.kind (o.at + o.len)
     || fits c (o.at + o.len) (check_of trust o.kind (o.at + o.len))

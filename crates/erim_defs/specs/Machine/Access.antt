@@ -6,9 +6,10 @@ use Rattle.erim_defs.specs.declared.machine.Rights.{Rights}
 use Rattle.erim_defs.specs.declared.machine.Access.{Access}
 use Rattle.erim_defs.specs.declared.machine.Access.TheVariants.{Fault, Missing}
 use Rattle.erim_defs.specs.declared.machine.Cause.TheVariants.{Unmapped, Read, Write, Key}
+use Rattle.erim_defs.specs.Inspection.Code.{or_else}
 use Rattle.erim_defs.specs.Machine.Pages.{RightsMap}
 
--- What a memory tells of each page: None where it doesn't hold the page, Some None where the page
+-- What a memory says of each page: None where it doesn't hold the page, Some None where the page
 -- isn't mapped.
 abbrev pub Seen : Type 0
 Seen = ℕ → Option (Option Rights)
@@ -16,6 +17,14 @@ Seen = ℕ → Option (Option Rights)
 -- a memory that holds every page
 abbrev pub whole : RightsMap → Seen
 whole rights = λ q. Some (rights q)
+
+abbrev pub mapped_rights : Option (Option Rights) → Option Rights
+mapped_rights None = None
+mapped_rights (Some r) = r
+
+-- the rights of each page that is held and mapped
+abbrev pub rights_in : Seen → RightsMap
+rights_in seen = λ q. mapped_rights (seen q)
 
 -- AD of the key is 0
 unfoldable pub opens : ℕ → ℕ → Bool
@@ -44,12 +53,8 @@ abbrev pub stop_at : Seen → Bool → ℕ → ℕ → Option Access
 stop_at seen write pkru a = if nat_lt a (2 ^ 47) then stop_by (seen (a / 4096)) write pkru a
     else Some (Fault Unmapped a)
 
-abbrev pub stop_or : Option Access → Option Access → Option Access
-stop_or None rest = rest
-stop_or (Some s) rest = Some s
-
 -- why an access to the n bytes from a on stops: the first byte that fails
 unfoldable pub stop : Seen → Bool → ℕ → ℕ → ℕ → Option Access
 stop seen write pkru a zero = None
 stop seen write pkru a (suc n) =
-    stop_or (stop_at seen write pkru a) (stop seen write pkru (suc a) n)
+    or_else (stop_at seen write pkru a) (stop seen write pkru (suc a) n)

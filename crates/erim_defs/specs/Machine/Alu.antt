@@ -23,13 +23,13 @@ abbrev pub is_negative : Width → ℕ → Bool
 is_negative w x = nat_le (2 ^ (bits_of w - 1)) x
 
 -- does a signed number not fit the width
-abbrev pub is_past : Width → ℤ → Bool
-is_past w (pos n) = nat_le (2 ^ (bits_of w - 1)) n
-is_past w (negsuc n) = nat_le (2 ^ (bits_of w - 1)) n
+abbrev pub is_past_width : Width → ℤ → Bool
+is_past_width w (pos n) = nat_le (2 ^ (bits_of w - 1)) n
+is_past_width w (negsuc n) = nat_le (2 ^ (bits_of w - 1)) n
 
 -- what the width holds of a signed number
-abbrev pub wrapped : Width → ℤ → ℕ
-wrapped w z = unsigned_abs (int_rem_euclid z (pos (2 ^ bits_of w)))
+abbrev pub wrap : Width → ℤ → ℕ
+wrap w z = unsigned_abs (int_rem_euclid z (pos (2 ^ bits_of w)))
 
 abbrev pub differ : Bool → Bool → Bool
 differ x y = if x then not y else y
@@ -55,7 +55,7 @@ abbrev pub sum_of : Width → ℕ → ℕ → ℕ → Outcome
 sum_of w a b c = (let r = (a + b + c) % 2 ^ bits_of w in record {
   value = r;
   flags = flags_of_result w r (nat_le (2 ^ bits_of w) (a + b + c))
-      (is_past w (cast_signed w a +ℤ cast_signed w b +ℤ pos c));
+      (is_past_width w (cast_signed w a +ℤ cast_signed w b +ℤ pos c));
 })
 
 -- a - b - c
@@ -64,7 +64,7 @@ difference_of w a b c = (let r = (a + (2 ^ bits_of w - b) + (2 ^ bits_of w - c))
     record {
       value = r;
       flags = flags_of_result w r (nat_lt a (b + c))
-          (is_past w (cast_signed w a -ℤ cast_signed w b -ℤ pos c));
+          (is_past_width w (cast_signed w a -ℤ cast_signed w b -ℤ pos c));
     })
 
 abbrev pub by_bits : Width → ℕ → Outcome
@@ -84,8 +84,8 @@ alu Cmp w a b f = (let o = difference_of w a b 0 in record o { value = a })
 -- the signed product; SF, ZF and PF are undefined
 unfoldable pub imul : Width → ℕ → ℕ → Flags → Outcome
 imul w a b f = (let product = cast_signed w a *ℤ cast_signed w b in record {
-  value = wrapped w product;
-  flags = record f { cf = is_past w product; of = is_past w product };
+  value = wrap w product;
+  flags = record f { cf = is_past_width w product; of = is_past_width w product };
 })
 
 -- ---- one operand
@@ -106,10 +106,10 @@ abbrev pub shift_count : Width → ℕ → ℕ
 shift_count w n = n % (if bits_of w == 64 then 64 else 32)
 
 -- SAR rounds down
-abbrev pub shifted : ShiftOp → Width → ℕ → ℕ → ℕ
-shifted Shl w a n = (a * 2 ^ n) % 2 ^ bits_of w
-shifted Shr w a n = a / 2 ^ n
-shifted Sar w a n = wrapped w (int_div_euclid (cast_signed w a) (pos (2 ^ n)))
+abbrev pub shift_result : ShiftOp → Width → ℕ → ℕ → ℕ
+shift_result Shl w a n = (a * 2 ^ n) % 2 ^ bits_of w
+shift_result Shr w a n = a / 2 ^ n
+shift_result Sar w a n = wrap w (int_div_euclid (cast_signed w a) (pos (2 ^ n)))
 
 -- bit k of a signed number in two's complement, which goes on with its sign
 abbrev pub signed_bit : ℤ → ℕ → Bool
@@ -131,7 +131,7 @@ shift_overflow Sar w a r carry = false
 -- by 1 bit or more; OF is undefined where it is more
 abbrev pub shift_by : ShiftOp → Width → ℕ → ℕ → Flags → Outcome
 shift_by op w a n f =
-    (let r = shifted op w a n in
+    (let r = shift_result op w a n in
     let carry = shift_carry op w a n f.cf in
     record {
       value = r;

@@ -15,7 +15,7 @@ pub record Change : Type 0 where
   -- the caller's PKRU
   pub pkru : ℕ
   -- a new thread
-  pub made : Option Thread
+  pub clone : Option Thread
 
 -- a refusal with its error number, an answer with its change, the end of the thread with the status
 -- that the process has where it was the last, the end of the process with its status
@@ -25,7 +25,7 @@ pub data CallResult : Type 0 where
   ThreadEnd : ℕ → CallResult
   Quit : ℕ → CallResult
 
--- s is the state before the call, t the caller as it goes on behind SYSCALL
+-- s is the state before the call, t the caller as it goes on after SYSCALL
 abbrev pub no_change : State → Thread → Change
 no_change s t = record {
   rights = s.rights;
@@ -34,7 +34,7 @@ no_change s t = record {
   blocks = s.blocks;
   output = s.output;
   pkru = t.pkru;
-  made = None;
+  clone = None;
 }
 
 -- the refusals of a row, left to right

@@ -1,6 +1,7 @@
 -- The system calls. Linux on x86-64: number in RAX, arguments in RDI, RSI, RDX, R10.
 use Rattle.std.specs.Prelude.{ℕ, ◌+◌, ◌%◌, ◌^◌, ◌==◌, ◌++◌, not, nat_lt, is_some, length}
 use Rattle.std.specs.Prelude.{false, if◌then◌else◌}
+use Rattle.erim_defs.specs.declared.limits.TheConstants.{MOST_OUTPUT}
 use Rattle.erim_defs.specs.declared.machine.Thread.{Thread}
 use Rattle.erim_defs.specs.declared.linux.TheConstants.{EBADF, EFAULT, ENOSPC, ENOSYS}
 use Rattle.erim_defs.specs.declared.linux.TheConstants.{SYS_WRITE, SYS_MMAP, SYS_MPROTECT}
@@ -26,7 +27,7 @@ unfoldable pub write_result : State → Thread → ℕ → ℕ → ℕ → CallR
 write_result s t fd buf n =
     or_refuse (not (fd % 2 ^ 32 == 1)) EBADF
     (or_refuse (is_some (stop (whole s.rights) false t.pkru buf n)) EFAULT
-    (or_refuse (nat_lt 1048576 (length s.output + n)) ENOSPC
+    (or_refuse (nat_lt MOST_OUTPUT (length s.output + n)) ENOSPC
     (Answer n (let c = no_change s t in
     record c { output = s.output ++ bytes_of_range s.bytes buf n }))))
 

@@ -15,5 +15,5 @@ pub last_page_is : last_page ≡ 2 ^ 35
 unfolding last_page
 last_page_is = refl
 
-unfoldable pub mapped : RightsMap → ℕ
-mapped rights = count_below last_page (λ q. is_some (rights q))
+unfoldable pub mapped_pages : RightsMap → ℕ
+mapped_pages rights = count_below last_page (λ q. is_some (rights q))

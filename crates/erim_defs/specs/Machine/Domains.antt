@@ -11,8 +11,8 @@ opens_domain trust pkru domain = is_domain trust domain
     && (if is_integrity trust domain then opens_write pkru domain else opens pkru domain)
 
 -- of each key from 0 to 4: is it a domain that the PKRU opens; 0 is none
-unfoldable pub opened : TrustValue → ℕ → List Bool
-opened trust pkru =
+unfoldable pub opened_domains : TrustValue → ℕ → List Bool
+opened_domains trust pkru =
     false ∷ opens_domain trust pkru 1 ∷ opens_domain trust pkru 2 ∷ opens_domain trust pkru 3
     ∷ opens_domain trust pkru 4 ∷ []
 
@@ -25,7 +25,7 @@ is_set_but (suc k) (b ∷ bs) = b || is_set_but k bs
 -- the address lies in the text of a domain, and the PKRU opens no other one
 abbrev pub is_at_home : TrustValue → ℕ → ℕ → Bool
 is_at_home trust pkru a = not (text_key trust a == 0)
-    && not (is_set_but (text_key trust a) (opened trust pkru))
+    && not (is_set_but (text_key trust a) (opened_domains trust pkru))
 
 -- the key is a domain that the PKRU doesn't open
 abbrev pub is_denied : TrustValue → ℕ → ℕ → Bool

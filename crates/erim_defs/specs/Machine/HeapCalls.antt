@@ -17,11 +17,11 @@ use Rattle.erim_defs.specs.Machine.State.{State, trust_of}
 
 -- ---- where a block fits
 
--- how many units of 16 bytes so many bytes take, rounded up
+-- how many units of 16 bytes a given number of bytes take, rounded up
 abbrev pub unit_count : ℕ → ℕ
 unit_count len = (len + 15) / 16
 
--- so many units from one on
+-- a given number of units from one on
 abbrev pub block_at : ℕ → ℕ → Span
 block_at unit count = record { start = BLOCK_UNIT * unit; length = BLOCK_UNIT * count }
 
@@ -48,7 +48,7 @@ pub last_unit_is : last_unit ≡ 2 ^ 43
 unfolding last_unit
 last_unit_is = refl
 
--- the lowest unit from which on so many fit
+-- the lowest unit from which on a given number fit
 unfoldable pub first_fit : List Span → List Span → ℕ → Option ℕ
 first_fit heaps blocks count =
     least_below last_unit (λ unit. is_fit heaps blocks (block_at unit count))

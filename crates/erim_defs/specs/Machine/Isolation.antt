@@ -1,6 +1,6 @@
 -- The isolation invariant. Own, after ERIM: while no thread has escaped, each open thread stands in
 -- the text of the one domain that it opens, or in the check after the sequence that opened it, and
--- nothing else that is published writes PKRU.
+-- no published sequence that writes PKRU is unsafe.
 use Rattle.std.specs.Prelude.{◌≡◌, ◌≢◌, ◌⊎◌, ℕ, ◌+◌, ◌*◌, ◌/◌, ◌==◌, ◌≤◌, ◌^◌, not, true}
 use Rattle.std.specs.Prelude.{false, Some, None, List, [], ◌∷◌, length, Bool}
 use Rattle.erim_defs.specs.declared.machine.Rights.{Rights}
@@ -22,12 +22,13 @@ use Rattle.erim_defs.specs.Machine.State.{Setup, State, code, trust_of, is_outsi
 use Rattle.erim_defs.specs.Machine.Start.{image_byte, frames_needed}
 use Rattle.erim_defs.specs.Machine.Replay.{replay}
 use Rattle.erim_defs.specs.Bits.{has_bit}
-use Rattle.erim_defs.specs.Inspection.Check.{compared, pkru_bit, Position, Compare, Branch}
+use Rattle.erim_defs.specs.Inspection.Check.{compared_value, pkru_bit, Position, Compare, Branch}
 use Rattle.erim_defs.specs.Inspection.Check.{Number, Leave}
 use Rattle.erim_defs.specs.Inspection.Check.{position_start}
 use Rattle.erim_defs.specs.Inspection.Trust.{TrustValue, in_text_of, is_domain}
 
--- a code without unsafe sequences
+-- a code without unsafe sequences. Every address is asked, and not those below 2^47 alone, as the
+-- unsafe list does: where nothing is mapped above, both say the same.
 abbrev pub IsSafeCode : TrustValue → Code → Type 0
 IsSafeCode trust c = (a : ℕ) → unsafe_at trust c a ≡ None
 
@@ -36,7 +37,7 @@ IsSafeCode trust c = (a : ℕ) → unsafe_at trust c a ≡ None
 -- what is known of a thread that stands at an instruction of its check, so that it can only go on
 -- to the end of the process
 abbrev pub PositionFact : TrustValue → SeqKind → ℕ → Position → Thread → Type 0
-PositionFact trust Wrpkru next Compare t = eax t ≢ compared trust next
+PositionFact trust Wrpkru next Compare t = eax t ≢ compared_value trust next
 PositionFact trust Wrpkru next Branch t = t.flags.zf ≡ false
 PositionFact trust Wrpkru next Number t = Unit {0}
 PositionFact trust Wrpkru next Leave t = register t RAX ≡ SYS_EXIT_GROUP
@@ -45,7 +46,7 @@ PositionFact trust Xrstor next Branch t = t.flags.cf ≡ true
 PositionFact trust Xrstor next Number t = Unit {0}
 PositionFact trust Xrstor next Leave t = register t RAX ≡ SYS_EXIT_GROUP
 
--- a thread with this origin, behind which no entry is enough, stands at an instruction of its check
+-- a thread with this origin, after which no entry is enough, stands at an instruction of its check
 pub record IsInCheck (trust : TrustValue) (c : Code) (t : Thread) : Type 0 where
   pub origin : Found
   pub position : Position

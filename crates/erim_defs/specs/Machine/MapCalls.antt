@@ -11,9 +11,9 @@ use Rattle.erim_defs.specs.declared.linux.TheConstants.{LOWEST_FREE_PAGE, KEYS, 
 use Rattle.erim_defs.specs.declared.machine.Rights.{Rights}
 use Rattle.erim_defs.specs.declared.machine.Thread.{Thread}
 use Rattle.erim_defs.specs.declared.page.TheConstants.{PLAIN_KEY, TRUSTED_KEY}
-use Rattle.erim_defs.specs.Inspection.Trust.{in_text_of, is_domain}
+use Rattle.erim_defs.specs.Inspection.Trust.{TrustValue, in_text_of, is_domain}
 use Rattle.erim_defs.specs.Machine.Pages.{RightsMap, asks_exec, published_rights}
-use Rattle.erim_defs.specs.Machine.Count.{last_page, count_below, mapped}
+use Rattle.erim_defs.specs.Machine.Count.{last_page, count_below, mapped_pages}
 use Rattle.erim_defs.specs.Machine.Domains.{is_denied}
 use Rattle.erim_defs.specs.Machine.State.{State, trust_of}
 use Rattle.erim_defs.specs.Machine.Start.{unpublished_rights}
@@ -23,12 +23,12 @@ use Rattle.erim_defs.specs.Machine.Least.{any_below, least_below}
 
 -- ---- ranges of pages
 
--- so many pages from a page on
+-- a given number of pages from a page on
 pub record PageRange : Type 0 where
   pub first : ℕ
   pub count : ℕ
 
--- the pages from an address on that so many bytes cover, rounded up
+-- the pages from an address on that a given number of bytes cover, rounded up
 abbrev pub range_of : ℕ → ℕ → PageRange
 range_of addr len = record { first = addr / 4096; count = (len + 4095) / 4096 }
 
@@ -36,8 +36,8 @@ abbrev pub is_in : PageRange → ℕ → Bool
 is_in r q = nat_le r.first q && nat_lt q (r.first + r.count)
 
 -- it ends past user memory
-abbrev pub is_past : PageRange → Bool
-is_past r = nat_lt (2 ^ 35) (r.first + r.count)
+abbrev pub ends_past_user : PageRange → Bool
+ends_past_user r = nat_lt (2 ^ 35) (r.first + r.count)
 
 -- a test holds of a page of a range
 abbrev pub any_page : PageRange → (ℕ → Bool) → Bool
@@ -49,16 +49,16 @@ abbrev pub has_key : Option Rights → ℕ → Bool
 has_key None key = false
 has_key (Some rights) key = rights.key == key
 
--- the key of a page is a domain that the caller doesn't open
-abbrev pub has_denied : State → Thread → Option Rights → Bool
-has_denied s t None = false
-has_denied s t (Some rights) = is_denied (trust_of s) t.pkru rights.key
+-- the key of a page is a domain that a caller with this PKRU doesn't open
+abbrev pub is_denied_page : TrustValue → ℕ → Option Rights → Bool
+is_denied_page trust pkru None = false
+is_denied_page trust pkru (Some rights) = is_denied trust pkru rights.key
 
--- it touches trusted text, or a page of a domain that the caller doesn't open
-abbrev pub is_protected : State → Thread → PageRange → Bool
-is_protected s t r =
-    any_page r (λ q. in_text_of (trust_of s) (4096 * q))
-    || any_page r (λ q. has_denied s t (s.rights q))
+-- a range touches trusted text, or a page of a domain that a caller with this PKRU doesn't open
+abbrev pub is_protected : TrustValue → RightsMap → ℕ → PageRange → Bool
+is_protected trust rights pkru r =
+    any_page r (λ q. in_text_of trust (4096 * q))
+    || any_page r (λ q. is_denied_page trust pkru (rights q))
 
 abbrev pub has_byte_on : Option Found → ℕ → Bool
 has_byte_on None q = false
@@ -87,19 +87,21 @@ abbrev pub mapped_in : RightsMap → PageRange → ℕ
 mapped_in rights r = count_below r.count (λ k. is_some (rights (r.first + k)))
 
 -- no page of a range is mapped, and it lies where ranges are mapped without MAP_FIXED
-abbrev pub is_free : RightsMap → PageRange → Bool
-is_free rights r =
+abbrev pub is_free_range : RightsMap → PageRange → Bool
+is_free_range rights r =
     nat_le LOWEST_FREE_PAGE r.first
-    && (not (is_past r) && not (any_page r (λ q. is_some (rights q))))
+    && (not (ends_past_user r) && not (any_page r (λ q. is_some (rights q))))
 
--- the lowest page from which on so many are free
+-- the lowest page from which on a given number are free
 abbrev pub lowest_free : RightsMap → ℕ → Option ℕ
 lowest_free rights count =
-    least_below last_page (λ p. is_free rights (record { first = p; count = count }))
+    least_below last_page (λ p. is_free_range rights (record { first = p; count = count }))
 
 abbrev pub new_rights : ℕ → Option Rights
 new_rights prot = Some (unpublished_rights prot PLAIN_KEY)
 
+-- ENOMEM never comes here: at most 4,096 pages are mapped, so that there is a free range below 2^47
+-- wherever frames suffice
 abbrev pub mmap_from : State → Thread → ℕ → ℕ → Option ℕ → CallResult
 mmap_from s t count prot None = Refusal ENOMEM
 mmap_from s t count prot (Some first) =
@@ -109,15 +111,16 @@ mmap_from s t count prot (Some first) =
 -- without MAP_FIXED: the lowest free pages
 abbrev pub mmap_anywhere : State → Thread → ℕ → ℕ → CallResult
 mmap_anywhere s t count prot =
-    or_refuse (nat_lt s.setup.frames (mapped s.rights + count)) ENOMEM
+    or_refuse (nat_lt s.setup.frames (mapped_pages s.rights + count)) ENOMEM
     (mmap_from s t count prot (lowest_free s.rights count))
 
 -- with MAP_FIXED: the pages of the range, mapped anew; each that is mapped gives its frame back
 abbrev pub mmap_at : State → Thread → ℕ → PageRange → ℕ → CallResult
 mmap_at s t addr r prot =
-    or_refuse (not (addr % 4096 == 0) || (nat_lt addr LOWEST_FIXED || is_past r)) EINVAL
-    (or_refuse (is_protected s t r) EPERM
-    (or_refuse (nat_lt (s.setup.frames + mapped_in s.rights r) (mapped s.rights + r.count)) ENOMEM
+    or_refuse (not (addr % 4096 == 0) || (nat_lt addr LOWEST_FIXED || ends_past_user r)) EINVAL
+    (or_refuse (is_protected (trust_of s) s.rights t.pkru r) EPERM
+    (or_refuse (nat_lt (s.setup.frames + mapped_in s.rights r)
+    (mapped_pages s.rights + r.count)) ENOMEM
     (or_refuse (has_pin s r) EAGAIN
     (Answer addr (with_pages s t r (new_rights prot))))))
 
@@ -133,8 +136,8 @@ mmap_result s t addr len prot flags =
 unfoldable pub munmap_result : State → Thread → ℕ → ℕ → CallResult
 munmap_result s t addr len =
     let r = range_of addr len in
-    or_refuse (not (addr % 4096 == 0) || (len == 0 || is_past r)) EINVAL
-    (or_refuse (is_protected s t r) EPERM
+    or_refuse (not (addr % 4096 == 0) || (len == 0 || ends_past_user r)) EINVAL
+    (or_refuse (is_protected (trust_of s) s.rights t.pkru r) EPERM
     (or_refuse (has_pin s r) EAGAIN
     (Answer 0 (with_pages s t r None))))
 
@@ -166,14 +169,16 @@ is_foreign s None = false
 is_foreign s (Some key) = not (is_taken s key)
 
 -- the key is a domain that the caller doesn't open
-abbrev pub is_trusted_key : State → Thread → Option ℕ → Bool
-is_trusted_key s t None = false
-is_trusted_key s t (Some key) = is_denied (trust_of s) t.pkru key
+abbrev pub is_denied_key : TrustValue → ℕ → Option ℕ → Bool
+is_denied_key trust pkru None = false
+is_denied_key trust pkru (Some key) = is_denied trust pkru key
 
 abbrev pub protect : State → Thread → ℕ → PageRange → ℕ → Option ℕ → CallResult
 protect s t addr r prot key =
-    or_refuse (not (addr % 4096 == 0) || (nat_lt 7 prot || (is_past r || is_foreign s key))) EINVAL
-    (or_refuse (is_protected s t r || is_trusted_key s t key) EPERM
+    or_refuse (not (addr % 4096 == 0) || (nat_lt 7 prot || (ends_past_user r
+    || is_foreign s key))) EINVAL
+    (or_refuse (is_protected (trust_of s) s.rights t.pkru r
+    || is_denied_key (trust_of s) t.pkru key) EPERM
     (or_refuse (any_page r (λ q. is_none (s.rights q))) ENOMEM
     (or_refuse (not (asks_exec prot) && has_pin s r) EAGAIN
     (Answer 0 (with_prot s t r prot key)))))

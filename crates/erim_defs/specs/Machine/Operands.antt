@@ -26,7 +26,7 @@ abbrev pub index_value : Option ℕ → Thread → ℕ
 index_value None t = 0
 index_value (Some n) t = register t n
 
--- the address of a memory operand of an instruction of so many bytes
+-- the address of a memory operand of an instruction of a given number of bytes
 abbrev pub address : Mem → ℕ → Thread → ℕ
 address m len t =
     (base_value m.base len t + index_value m.index t * 2 ^ m.scale + cast_unsigned w64 m.disp)
@@ -57,7 +57,7 @@ write_to w place len t next value = Give (with_operand w place next value) None
 
 -- ---- the stack
 
--- RSP behind a number that is taken from the stack
+-- RSP after a number that is taken from the stack
 abbrev pub raised_rsp : ℕ → ℕ
 raised_rsp rsp = (rsp + 8) % 2 ^ 64
 

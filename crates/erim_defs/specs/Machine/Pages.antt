@@ -31,8 +31,8 @@ abbrev pub published_rights : Rights → Rights
 published_rights r = record r { exec = true; write = false }
 
 -- and once a write took its publication back
-abbrev pub taken_back : Rights → Rights
-taken_back r = record r { exec = false; write = true }
+abbrev pub taken_back_rights : Rights → Rights
+taken_back_rights r = record r { exec = false; write = true }
 
 abbrev pub is_published : Option Rights → Bool
 is_published None = false

@@ -1,5 +1,6 @@
 -- Runs of the machine under a journal. Own.
 use Rattle.std.specs.Prelude.{◌≡◌, ◌⊎◌, ℕ, Option, Some, None, IsSome, List, [], ◌∷◌, zero, suc}
+use Rattle.std.specs.List.{AllByRecursion}
 use Rattle.erim_defs.specs.declared.machine.Entry.{Entry}
 use Rattle.erim_defs.specs.Machine.State.{Setup, State}
 use Rattle.erim_defs.specs.Machine.Step.{step}
@@ -14,7 +15,7 @@ unfoldable pub steps_of : ℕ → ℕ → State → Option State
 steps_of t zero s = Some s
 steps_of t (suc n) s = then_ (step t s) (steps_of t n)
 
--- an entry is so many steps of its thread; the worker changes nothing
+-- an entry is a given number of steps of its thread; the worker changes nothing
 abbrev pub replay_from : Option State → List Entry → Option State
 replay_from s [] = s
 replay_from s (entry ∷ entries) = replay_from (then_ s (steps_of entry.thread entry.count)) entries
@@ -34,3 +35,7 @@ IsOver s = IsSome s.end ⊎ (s.steps ≡ s.setup.budget)
 -- legal, and over
 abbrev pub IsComplete : Setup → List Entry → Type 0
 IsComplete setup entries = (s : State) × (replay setup entries ≡ Some s) × IsOver s
+
+-- no worker but 0 made a step
+abbrev pub AreAlone : List Entry → Type 0
+AreAlone entries = AllByRecursion (λ (e : Entry). e.worker ≡ 0) entries

@@ -9,7 +9,7 @@ use Rattle.erim_defs.specs.declared.machine.Escape.{Escape}
 use Rattle.erim_defs.specs.declared.trust.Span.{Span}
 use Rattle.erim_defs.specs.Inspection.Code.{Code, or_else}
 use Rattle.erim_defs.specs.Machine.Pages.{RightsMap, ByteMap, published_code}
-use Rattle.erim_defs.specs.Machine.Domains.{opened, is_set_but}
+use Rattle.erim_defs.specs.Machine.Domains.{opened_domains, is_set_but}
 use Rattle.erim_defs.specs.Inspection.Trust.{TrustValue, text_key}
 use Rattle.erim_defs.specs.Inspection.Image.{image_trust}
 
@@ -56,11 +56,11 @@ trust_of s = image_trust s.setup.image
 
 -- a thread with this PKRU is open: it opens a domain
 abbrev pub is_open : TrustValue → ℕ → Bool
-is_open trust pkru = is_set_but 0 (opened trust pkru)
+is_open trust pkru = is_set_but 0 (opened_domains trust pkru)
 
 -- open, and not at home: it opens another domain than the one in whose text it stands
 abbrev pub is_outside : TrustValue → Thread → Bool
-is_outside trust t = is_set_but (text_key trust t.rip) (opened trust t.pkru)
+is_outside trust t = is_set_but (text_key trust t.rip) (opened_domains trust t.pkru)
 
 -- open, and at home
 abbrev pub is_inside : TrustValue → Thread → Bool

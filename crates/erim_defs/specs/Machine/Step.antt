@@ -26,7 +26,7 @@ use Rattle.erim_defs.specs.Bits.{has_bit}
 use Rattle.erim_defs.specs.Inspection.Check.{pkru_bit}
 use Rattle.erim_defs.specs.Inspection.Code.{Code}
 use Rattle.erim_defs.specs.Machine.Pages.{asks_exec, published_rights, code_with, code_bytes}
-use Rattle.erim_defs.specs.Machine.Pages.{with_value_at, asks_write, taken_back}
+use Rattle.erim_defs.specs.Machine.Pages.{with_value_at, asks_write, taken_back_rights}
 use Rattle.erim_defs.specs.Machine.Access.{whole, opens_write}
 use Rattle.erim_defs.specs.Machine.MapCalls.{is_pinned}
 use Rattle.erim_defs.specs.Inspection.Unsafe.{first_unsafe}
@@ -98,7 +98,7 @@ after_exec_fault (Some rights) x r s =
 -- the page q with these rights takes its publication back where it isn't pinned, and stays else
 abbrev pub after_take_back : ℕ → Rights → State → State
 after_take_back q rights s = if is_pinned s.threads q then s
-    else record s { rights = with_value_at s.rights q (Some (taken_back rights)) }
+    else record s { rights = with_value_at s.rights q (Some (taken_back_rights rights)) }
 
 -- a published page that asks PROT_WRITE, and whose key the thread may write
 abbrev pub is_write_fault : Rights → ℕ → Bool
@@ -129,10 +129,10 @@ abbrev pub sequence_of : CodedInsn → ℕ → Option Found
 sequence_of i rip = sequence_at i.insn (rip + i.skip) (i.len - i.skip)
 
 -- is an instruction of a thread that stands so free of escape: it writes PKRU
-abbrev pub is_free : Insn → Thread → Bool
-is_free Wrpkru t = true
-is_free (Xrstor m) t = has_bit (eax t) pkru_bit
-is_free other t = false
+abbrev pub writes_pkru : Insn → Thread → Bool
+writes_pkru Wrpkru t = true
+writes_pkru (Xrstor m) t = has_bit (eax t) pkru_bit
+writes_pkru other t = false
 
 -- how a thread goes on
 pub record Move : Type 0 where
@@ -158,9 +158,9 @@ flags_word f =
     0x202 + (if f.cf then 1 else 0) + (if f.pf then 4 else 0) + (if f.zf then 64 else 0)
     + (if f.sf then 128 else 0) + (if f.of then 2048 else 0)
 
--- the thread behind SYSCALL, before its call: the next RIP goes to RCX, RFLAGS to R11
-abbrev pub behind_syscall : ℕ → Thread → Thread
-behind_syscall len t = (let n = onward len t in
+-- the thread after SYSCALL, before its call: the next RIP goes to RCX, RFLAGS to R11
+abbrev pub after_syscall : ℕ → Thread → Thread
+after_syscall len t = (let n = onward len t in
     with_register (with_register n RCX n.rip) R11 (flags_word t.flags))
 
 abbrev pub with_new_thread : Option Thread → State → State
@@ -177,7 +177,7 @@ with_change c s = record s {
   output = c.output;
 }
 
--- the caller t behind a call that isn't refused
+-- the caller t after a call that isn't refused
 abbrev pub caller_after : ℕ → Change → Thread → Thread
 caller_after value c t = (let u = with_register t RAX value in record u { pkru = c.pkru })
 
@@ -185,7 +185,7 @@ caller_after value c t = (let u = with_register t RAX value in record u { pkru =
 abbrev pub with_last_end : ℕ → State → State
 with_last_end status s = if any_live s.threads then s else with_end (Exit status) s
 
--- t is the caller behind SYSCALL
+-- t is the caller after SYSCALL
 abbrev pub after_call : CallResult → Runner → Thread → State → State
 after_call (Refusal e) r t s =
     after_move (record {
@@ -195,7 +195,7 @@ after_call (Refusal e) r t s =
       free = false;
     }) s
 after_call (Answer v c) r t s =
-    with_new_thread c.made
+    with_new_thread c.clone
     (after_move (record { runner = r; after = caller_after v c t; executed = None; free = false })
     (with_change c s))
 after_call (ThreadEnd status) r t s =
@@ -214,13 +214,13 @@ after_instruction (Done t w) i r s =
       runner = r;
       after = t;
       executed = sequence_of i r.thread.rip;
-      free = is_free i.insn r.thread;
+      free = writes_pkru i.insn r.thread;
     })
     (record s { bytes = bytes_after_write w s.bytes })
 after_instruction (Stopped a) i r s = after_stop a r s
 after_instruction Called i r s =
-    after_call (call_result s r.number (behind_syscall i.len r.thread)) r
-    (behind_syscall i.len r.thread) s
+    after_call (call_result s r.number (after_syscall i.len r.thread)) r
+    (after_syscall i.len r.thread) s
 
 -- a step without its guard
 abbrev pub after_fetch : FetchOutcome → Runner → State → State

@@ -9,8 +9,8 @@ use Rattle.erim_defs.specs.Machine.Registers.{with_register}
 use Rattle.erim_defs.specs.Machine.State.{State}
 use Rattle.erim_defs.specs.Machine.CallResult.{CallResult, Answer, no_change, or_refuse}
 
--- a copy of the caller, as it goes on behind its call, with 0 in RAX, and another stack where one
--- is given
+-- a copy of the caller, as it goes on after its call, with 0 in RAX, and another stack where one is
+-- given
 abbrev pub new_thread : Thread → ℕ → Thread
 new_thread t stack =
     let u = with_register t RAX 0 in if stack == 0 then u else with_register u RSP stack
@@ -22,7 +22,7 @@ clone_result s t flags stack =
     or_refuse (not (flags % 2 ^ 32 == CLONE_FLAGS)) EINVAL
     (or_refuse (nat_le MOST_THREADS (length s.threads)) EAGAIN
     (Answer (length s.threads + 1)
-    (let c = no_change s t in record c { made = Some (new_thread t stack) })))
+    (let c = no_change s t in record c { clone = Some (new_thread t stack) })))
 
 -- gettid() of the thread of this number
 unfoldable pub gettid_result : State → ℕ → Thread → CallResult

@@ -7,6 +7,9 @@ use Rattle.std.specs.Prelude.{if◌then◌else◌}
 use Rattle.std.specs.List.{flat_map, AllByRecursion}
 use Rattle.std.specs.Int.{w16, w32, to_le_bytes}
 use Rattle.std.specs.Str.{bytes_eq}
+use Rattle.erim_defs.specs.declared.limits.TheConstants.{LEAST_FRAMES, MOST_COUNT, MOST_FRAMES}
+use Rattle.erim_defs.specs.declared.limits.TheConstants.{MOST_STEPS}
+use Rattle.erim_defs.specs.declared.limits.TheConstants.{MOST_THREADS, MOST_WORKERS}
 use Rattle.erim_defs.specs.declared.journal.JournalFault.{JournalFault}
 use Rattle.erim_defs.specs.declared.journal.JournalFault.TheVariants.{Short, Magic, Budget, Frames}
 use Rattle.erim_defs.specs.declared.journal.JournalFault.TheVariants.{Count, Trailing, BadEntry}
@@ -22,18 +25,19 @@ pub record JournalValue : Type 0 where
 -- ---- which journals there are
 
 -- a worker of at most 8, a thread of at most 15, 1 to 64 steps
-abbrev pub is_entry : Entry → Bool
-is_entry e = nat_le e.worker 8 && (nat_le e.thread 15 && (nat_le 1 e.count && nat_le e.count 64))
+abbrev pub is_journal_entry : Entry → Bool
+is_journal_entry e = nat_le e.worker MOST_WORKERS && (nat_lt e.thread MOST_THREADS
+    && (nat_le 1 e.count && nat_le e.count MOST_COUNT))
 
 abbrev pub AreEntries : List Entry → Type 0
-AreEntries entries = AllByRecursion (λ e. is_entry e ≡ true) entries
+AreEntries entries = AllByRecursion (λ e. is_journal_entry e ≡ true) entries
 
 -- a budget of 1 to 4,194,304 steps, 64 to 4,096 frames, and no more entries than steps
 pub record IsJournal (j : JournalValue) : Type 0 where
   pub some : 1 ≤ j.budget
-  pub budget : j.budget ≤ 4194304
-  pub least : 64 ≤ j.frames
-  pub frames : j.frames ≤ 4096
+  pub budget : j.budget ≤ MOST_STEPS
+  pub least : LEAST_FRAMES ≤ j.frames
+  pub frames : j.frames ≤ MOST_FRAMES
   pub count : length j.entries ≤ j.budget
   pub entries : AreEntries j.entries
 
@@ -66,7 +70,7 @@ entry_at bytes place = record {
   count = number_at bytes (place + 4) 4;
 }
 
--- so many entries from a place on
+-- a given number of entries from a place on
 unfoldable pub entries_from : List ℕ → ℕ → ℕ → List Entry
 entries_from bytes place zero = []
 entries_from bytes place (suc n) = entry_at bytes place ∷ entries_from bytes (place + 8) n
@@ -81,7 +85,8 @@ frames_of bytes = number_at bytes 12 4
 abbrev pub count_of : List ℕ → ℕ
 count_of bytes = number_at bytes 16 4
 
--- the journal whose bytes they are, if they are one's
+-- the journal whose bytes they are. It is defined of any bytes, and meant for those without a
+-- fault.
 unfoldable pub journal_of : List ℕ → JournalValue
 journal_of bytes = record {
   budget = budget_of bytes;
@@ -93,7 +98,7 @@ journal_of bytes = record {
 unfoldable pub entry_fault : ℕ → List Entry → Option JournalFault
 entry_fault index [] = None
 entry_fault index (e ∷ es) =
-    if is_entry e then entry_fault (index + 1) es else Some (BadEntry index)
+    if is_journal_entry e then entry_fault (index + 1) es else Some (BadEntry index)
 
 -- the first fault
 unfoldable pub journal_fault : List ℕ → Option JournalFault
@@ -101,8 +106,9 @@ journal_fault bytes =
     let end = 20 + 8 * count_of bytes in
     if nat_lt (length bytes) 20 then Some (Short (length bytes))
     else if not (bytes_eq (take 8 bytes) (codes "ERIMJNL1")) then Some Magic
-    else if not (nat_le 1 (budget_of bytes) && nat_le (budget_of bytes) 4194304) then Some Budget
-    else if not (nat_le 64 (frames_of bytes) && nat_le (frames_of bytes) 4096) then Some Frames
+    else if not (nat_le 1 (budget_of bytes) && nat_le (budget_of bytes) MOST_STEPS) then Some Budget
+    else if not (nat_le LEAST_FRAMES (frames_of bytes)
+    && nat_le (frames_of bytes) MOST_FRAMES) then Some Frames
     else if nat_lt (budget_of bytes) (count_of bytes) then Some Count
     else if nat_lt (length bytes) end then Some (Short (length bytes))
     else if nat_lt end (length bytes) then Some (Trailing end)

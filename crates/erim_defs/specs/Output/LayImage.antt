@@ -1,4 +1,4 @@
--- The bytes of a made image: parts of a program, and notes of its trusted part and its functions,
+-- The bytes of an image that is laid: parts of a program, and notes of its trusted part and its functions,
 -- laid out as a file. ELF-64 Object File Format, "File header", "Program header" and "Note
 -- section"; the places and the two notes are own.
 use Rattle.std.specs.Prelude.{ℕ, ◌+◌, ◌-◌, ◌*◌, ◌/◌, ◌==◌, max, List, [], ◌∷◌, ◌++◌, length}
@@ -42,7 +42,7 @@ xwords numbers = flat_map (to_le_bytes w64) numbers
 abbrev pub multiple_from : ℕ → ℕ → ℕ
 multiple_from size n = (n + (size - 1)) / size * size
 
--- the bytes with zeros behind them up to a place
+-- the bytes with zeros after them up to a place
 abbrev pub with_padding : ℕ → List ℕ → List ℕ
 with_padding place bytes = bytes ++ replicate (place - length bytes) 0
 
@@ -74,7 +74,7 @@ functions_note functions =
 
 -- ---- pieces of the file, each with a program header
 
--- what the header tells, and the bytes that stand at the place
+-- what the header says, and the bytes that stand at the place
 pub record Piece : Type 0 where
   pub kind : ℕ
   pub flags : ℕ
@@ -90,7 +90,7 @@ abbrev pub program_header : Piece → List ℕ
 program_header p = words (p.kind ∷ p.flags ∷ [])
     ++ xwords (p.place ∷ p.vaddr ∷ p.vaddr ∷ length p.bytes ∷ p.memsz ∷ p.align ∷ [])
 
--- a PT_LOAD: its place is behind the end of all before, and 0 where it has no bytes
+-- a PT_LOAD: its place is after the end of all before, and 0 where it has no bytes
 abbrev pub part_piece : ℕ → Part → Piece
 part_piece end p = record {
   kind = PT_LOAD;
@@ -118,12 +118,12 @@ notes_piece end notes = record {
 abbrev pub end_with : ℕ → Piece → ℕ
 end_with end p = max end (p.place + length p.bytes)
 
--- the parts behind an end, and last the notes where there are any
+-- the parts after an end, and last the notes where there are any
 unfoldable pub pieces : ℕ → List Part → List ℕ → List Piece
 pieces end [] notes = if length notes == 0 then [] else notes_piece end notes ∷ []
 pieces end (p ∷ ps) notes = part_piece end p ∷ pieces (end_with end (part_piece end p)) ps notes
 
--- the file so far, and behind it each piece at its place; gaps are zero
+-- the file so far, and after it each piece at its place; gaps are zero
 unfoldable pub file_with_pieces : List ℕ → List Piece → List ℕ
 file_with_pieces file [] = file
 file_with_pieces file (p ∷ ps) = file_with_pieces (with_padding p.place file ++ p.bytes) ps
@@ -142,7 +142,7 @@ file_header count entry =
 abbrev pub header_count : List Part → List ℕ → ℕ
 header_count parts notes = length parts + (if length notes == 0 then 0 else 1)
 
--- the file header, the program headers, and the pieces behind them
+-- the file header, the program headers, and the pieces after them
 abbrev pub file_of_parts : List Part → List ℕ → ℕ → List ℕ
 file_of_parts parts notes entry =
     let count = header_count parts notes in

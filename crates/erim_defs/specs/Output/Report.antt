@@ -74,9 +74,9 @@ unfoldable pub worker_lines : List Entry → ℕ → List ℕ
 worker_lines entries zero = []
 worker_lines entries (suc w) = worker_lines entries w ++ worker_line w (steps_of_worker entries w)
 
--- what stands behind the output
-abbrev pub lines_behind : List Entry → State → List ℕ
-lines_behind entries s =
+-- what stands after the output
+abbrev pub lines_after_output : List Entry → State → List ℕ
+lines_after_output entries s =
     line (codes "steps " ++ decimal s.steps)
     ++ line (codes "end " ++ end_text s.end)
     ++ line (codes "escape " ++ escape_text s.escape)
@@ -86,4 +86,4 @@ lines_behind entries s =
 -- workers are numbered from 0 to 8
 unfoldable pub report : List Entry → State → List ℕ
 report entries s = line (codes "output " ++ decimal (length s.output)) ++ line s.output
-    ++ lines_behind entries s
+    ++ lines_after_output entries s

@@ -27,6 +27,6 @@ rewrite_text (Cannot at why) =
     codes "cannot rewrite " ++ address_text at ++ codes " " ++ why_text why
 rewrite_text (NoRoom at) = codes "no room " ++ address_text at
 
--- of an image that was rewritten at so many sites
+-- of an image that was rewritten at a given number of sites
 unfoldable pub rewrote_line : ℕ → List ℕ
 rewrote_line count = line (codes "rewrote " ++ decimal count ++ codes " sites")

@@ -20,11 +20,11 @@ use Rattle.erim_defs.specs.declared.journal.JournalFault.TheVariants as journal
 abbrev pub line : List ℕ → List ℕ
 line text = text ++ 10 ∷ []
 
--- at least so many digits, with zeros in front where there are fewer
+-- at least a given number of digits, with zeros in front where there are fewer
 abbrev pub zero_filled : ℕ → List ℕ → List ℕ
 zero_filled width ds = replicate (width - length ds) 48 ++ ds
 
--- `0x` and at least so many lower-case hexadecimal digits
+-- `0x` and at least a given number of lower-case hexadecimal digits
 abbrev pub hex_text : ℕ → ℕ → List ℕ
 hex_text width n = codes "0x" ++ zero_filled width (digits 16 false n)
 

@@ -1,4 +1,4 @@
--- How the words behind a command's word are read: operands and options in any order. Own, after the
+-- How the words after a command's word are read: operands and options in any order. Own, after the
 -- conventions of getopt_long(3).
 use Rattle.std.specs.Prelude.{ℕ, ◌==◌, ◌&&◌, not, nat_lt, nat_le, Bool, true, false, Option, Some}
 use Rattle.std.specs.Prelude.{None, List, [], ◌∷◌, ◌++◌, length, find, if◌then◌else◌}
@@ -66,7 +66,7 @@ is_dashed [] = false
 is_dashed (c ∷ []) = false
 is_dashed (c ∷ d ∷ rest) = c == 45
 
--- what stands before the first `=` (61), and what behind it
+-- what stands before the first `=` (61), and what after it
 abbrev pub cut : Text → Text × Option Text
 cut [] = ([], None)
 cut (c ∷ rest) = if c == 61 then ([], Some rest) else (c ∷ (cut rest).0, (cut rest).1)
@@ -145,7 +145,7 @@ abbrev pub complete : List Slot → Given → Option Given
 complete operands given =
     if list_all (λ s. is_given s.name given) operands then Some given else None
 
--- what the words behind a command's word give
+-- what the words after a command's word give
 abbrev pub given_by : Form → List Text → Option Given
 given_by form words =
     option_and_then (complete form.operands)

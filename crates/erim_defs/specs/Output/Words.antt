@@ -4,6 +4,9 @@ use Rattle.std.specs.Prelude.{ℕ, ◌^◌, ◌-◌, ◌&&◌, nat_lt, Option, N
 use Rattle.std.specs.Prelude.{if◌then◌else◌}
 use Rattle.std.specs.Option.{option_map, option_and_then, option_map_or}
 use Rattle.std.specs.Str.{bytes_eq}
+use Rattle.erim_defs.specs.declared.limits.TheConstants.{LEAST_FRAMES, MOST_FRAMES, MOST_STEPS}
+use Rattle.erim_defs.specs.declared.limits.TheConstants.{MOST_WORKERS}
+use Rattle.erim_defs.specs.declared.limits.TheConstants.{USUAL_FRAMES, USUAL_STEPS, USUAL_WORKERS}
 use Rattle.erim_defs.specs.Output.WordForms.{Text, Name, Number, Slot, Form, Given, number_of}
 use Rattle.erim_defs.specs.Output.WordForms.{is_numeral, word_of, given_by}
 
@@ -13,8 +16,8 @@ pub data Command : Type 0 where
   Inspect : (image : Text) → Command
   -- prints the instructions of an image
   Disasm : (image : Text) → Command
-  -- runs an image with so many workers, for at most so many steps with at most so many mapped
-  -- pages, saves the journal of the run, and prints its report
+  -- runs an image with a given number of workers, for at most a given number of steps with at most
+  -- a given number of mapped pages, saves the journal of the run, and prints its report
   Run : (image journal : Text) (workers steps frames : ℕ) → Command
   -- runs an image by a journal, and prints the report
   Replay : (image journal : Text) → Command
@@ -46,13 +49,13 @@ abbrev pub seed : Slot
 seed = number_slot (codes "SEED") 0 (2 ^ 64 - 1)
 
 abbrev pub workers : Slot
-workers = number_slot (codes "workers") 1 8
+workers = number_slot (codes "workers") 1 MOST_WORKERS
 
 abbrev pub steps : Slot
-steps = number_slot (codes "steps") 1 4194304
+steps = number_slot (codes "steps") 1 MOST_STEPS
 
 abbrev pub frames : Slot
-frames = number_slot (codes "frames") 64 4096
+frames = number_slot (codes "frames") LEAST_FRAMES MOST_FRAMES
 
 -- the word that was given for a slot
 abbrev pub text : Given → Slot → Text
@@ -91,8 +94,8 @@ disasm_usage = usage (codes "disasm") (image ∷ []) [] (λ g. Disasm (text g im
 abbrev pub run_usage : Usage
 run_usage =
     usage (codes "run") (image ∷ journal ∷ []) (workers ∷ steps ∷ frames ∷ [])
-    (λ g. Run (text g image) (text g journal) (value g workers 4) (value g steps 1000000)
-    (value g frames 1024))
+    (λ g. Run (text g image) (text g journal) (value g workers USUAL_WORKERS)
+    (value g steps USUAL_STEPS) (value g frames USUAL_FRAMES))
 
 abbrev pub replay_usage : Usage
 replay_usage =
@@ -113,13 +116,13 @@ abbrev pub usages : List Usage
 usages = inspect_usage ∷ disasm_usage ∷ run_usage ∷ replay_usage ∷ rewrite_usage ∷ gen_usage
     ∷ soak_usage ∷ []
 
--- what a usage means by the words behind its word
-abbrev pub meant : List Text → Usage → Option Command
-meant words u = option_map u.means (given_by u.form words)
+-- what a usage means by the words after its word
+abbrev pub command_by : List Text → Usage → Option Command
+command_by words u = option_map u.means (given_by u.form words)
 
 -- the command that the words mean
 unfoldable pub command_of : List Text → Option Command
 command_of [] = None
 command_of (program ∷ []) = None
 command_of (program ∷ word ∷ words) =
-    option_and_then (meant words) (find (λ u. bytes_eq word u.word) usages)
+    option_and_then (command_by words) (find (λ u. bytes_eq word u.word) usages)

@@ -1,4 +1,4 @@
--- The copy of a run: what stands in it, where, and what it stands for. Own; the spellings are
+-- The copy of a region: what stands in it, where, and what it stands for. Own; the spellings are
 -- canonical encodings.
 use Rattle.std.specs.Prelude.{ℕ, ◌+◌, ◌-◌, ◌%◌, ◌^◌, ◌&&◌, nat_le, nat_lt, Bool, true, false, List}
 use Rattle.std.specs.Prelude.{[], ◌∷◌, ◌++◌, length, take, drop, Option, Some, None, is_some}
@@ -18,9 +18,10 @@ use Rattle.erim_defs.specs.Inspection.Occurrence.{occurrence_at}
 use Rattle.erim_defs.specs.Inspection.Unsafe.{first_below}
 use Rattle.erim_defs.specs.Machine.Least.{least_below}
 use Rattle.erim_defs.specs.Encoding.Canonical.{canonical_encoding, four_bytes, register_number}
-use Rattle.erim_defs.specs.Rewriting.Standing.{Standing, behind, has_rip, disp_place, rip_target}
+use Rattle.erim_defs.specs.Rewriting.Standing.{Standing, insn_end, has_rip, disp_place, rip_target}
 use Rattle.erim_defs.specs.Rewriting.Standing.{target_of}
-use Rattle.erim_defs.specs.Rewriting.Sites.{Run, holds_core, moves_number, run_insns, run_end}
+use Rattle.erim_defs.specs.Rewriting.Sites.{Region, holds_core, moves_number, region_insns}
+use Rattle.erim_defs.specs.Rewriting.Sites.{region_end}
 
 -- what a part of a copy is: an instruction that was copied, a byte 90 between two, a MOV of an
 -- immediate that a LEA completes, that LEA with its register, the jump back
@@ -125,21 +126,21 @@ unfoldable pub split : Insn → Option (List ℕ × List ℕ)
 split insn = split_with insn (least_split insn)
 
 -- the part that an instruction is copied as
-abbrev pub copied : ℕ → Standing → List ℕ → Bool → Part
-copied at i bytes fits = record {
+abbrev pub copied_part : ℕ → Standing → List ℕ → Bool → Part
+copied_part at i bytes fits = record {
   kind = Same;
   at = at;
   home = i.at;
-  next = behind i;
+  next = insn_end i;
   bytes = bytes;
   fits = fits;
 }
 
 abbrev pub split_parts : Option (List ℕ × List ℕ) → ℕ → Standing → List Part
-split_parts None at i = copied at i [] false ∷ []
+split_parts None at i = copied_part at i [] false ∷ []
 split_parts (Some pair) at i =
-    record (copied at i pair.0 true) { kind = Begins; next = i.at }
-    ∷ record (copied (at + length pair.0) i pair.1 true) { kind = Completes (moved_to i.insn) }
+    record (copied_part at i pair.0 true) { kind = Begins; next = i.at }
+    ∷ record (copied_part (at + length pair.0) i pair.1 true) { kind = Completes (moved_to i.insn) }
     ∷ []
 
 -- ---- the parts of one instruction at its new address
@@ -160,7 +161,7 @@ the_target (Some a) = a
 -- a jump or conditional jump is spelled with 4 bytes, to its old target
 abbrev pub jumping : Option Insn → ℕ → ℤ → Standing → List Part
 jumping None at z i = []
-jumping (Some insn) at z i = copied at i (canonical_encoding insn) (is_near z) ∷ []
+jumping (Some insn) at z i = copied_part at i (canonical_encoding insn) (is_near z) ∷ []
 
 abbrev pub jump_parts : ℕ → Standing → List Part
 jump_parts at i =
@@ -172,7 +173,7 @@ abbrev pub rip_parts : ℕ → Standing → List Part
 rip_parts at i =
     let z = offset_to (at + length i.bytes) (rip_target i) in
     let k = disp_place i - i.at in
-    copied at i (take k i.bytes ++ (four_bytes z ++ drop (k + 4) i.bytes)) (is_near z) ∷ []
+    copied_part at i (take k i.bytes ++ (four_bytes z ++ drop (k + 4) i.bytes)) (is_near z) ∷ []
 
 unfoldable pub insn_parts : List Found → ℕ → Standing → List Part
 insn_parts elements at i =
@@ -180,7 +181,7 @@ insn_parts elements at i =
     else if moves_number i.insn && list_any (λ e. holds_core e i) elements
     then split_parts (split i.insn) at i
     else if has_rip i then rip_parts at i
-    else copied at i i.bytes true ∷ []
+    else copied_part at i i.bytes true ∷ []
 
 -- ---- the whole copy
 
@@ -189,14 +190,14 @@ bytes_of parts = flat_map (λ p. p.bytes) parts
 
 -- an element's core begins in an instruction and goes on in the next
 abbrev pub goes_on : Standing → Found → Bool
-goes_on i e = nat_le i.at e.at && (nat_lt e.at (behind i) && nat_lt (behind i) (e.at + 3))
+goes_on i e = nat_le i.at e.at && (nat_lt e.at (insn_end i) && nat_lt (insn_end i) (e.at + 3))
 
 abbrev pub filler_part : ℕ → Standing → Part
 filler_part at i = record {
   kind = Filler;
   at = at;
-  home = behind i;
-  next = behind i;
+  home = insn_end i;
+  next = insn_end i;
   bytes = 0x90 ∷ [];
   fits = true;
 }
@@ -213,5 +214,5 @@ parts_from elements back at (i ∷ is) =
     own ++ (gap
     ++ parts_from elements back (at + length (bytes_of own) + length (bytes_of gap)) is)
 
-unfoldable pub copy_parts : Run → ℕ → List Part
-copy_parts r at = parts_from r.elements (run_end r) at (run_insns r)
+unfoldable pub copy_parts : Region → ℕ → List Part
+copy_parts r at = parts_from r.elements (region_end r) at (region_insns r)

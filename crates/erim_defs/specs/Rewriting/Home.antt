@@ -1,5 +1,6 @@
--- What the addresses of a rewritten program stand for in the old one, and which of its bytes a run
--- may not find as they were. Own.
+-- What the addresses of a rewritten program stand for in the old one, and which of its bytes a
+-- region may not find as they were: what sameness of the two programs is said with. No contract
+-- cites it yet. Own.
 use Rattle.std.specs.Prelude.{ℕ, ◌+◌, ◌-◌, ◌==◌, ◌||◌, max, nat_lt, Bool, true, false, List}
 use Rattle.std.specs.Prelude.{[], ◌∷◌, ◌++◌, length, map, min, Option, is_some}
 use Rattle.std.specs.Prelude.{if◌then◌else◌}
@@ -10,7 +11,7 @@ use Rattle.erim_defs.specs.declared.segment.Segment.{Segment}
 use Rattle.erim_defs.specs.declared.trust.Span.{Span}
 use Rattle.erim_defs.specs.Inspection.Image.{segments}
 use Rattle.erim_defs.specs.Output.LayImage.{multiple_from}
-use Rattle.erim_defs.specs.Rewriting.Sites.{first_of, run_start, run_end}
+use Rattle.erim_defs.specs.Rewriting.Sites.{first_of, region_start, region_end}
 use Rattle.erim_defs.specs.Rewriting.Copies.{Kind, Same, Filler, Begins, Completes, Back, Part}
 use Rattle.erim_defs.specs.Rewriting.Layout.{Copy, segment_bytes}
 use Rattle.erim_defs.specs.Rewriting.NewFile.{new_base}
@@ -18,9 +19,9 @@ use Rattle.erim_defs.specs.Rewriting.Rewriting.{Rewritten}
 
 -- ---- addresses
 
--- the copy of the run that starts at an address: a thread there jumps into it
+-- the copy of the region that starts at an address: a thread there jumps into it
 abbrev pub starts_at : List Copy → ℕ → Option Copy
-starts_at copies a = first_of (λ k. run_start k.run == a) copies
+starts_at copies a = first_of (λ k. region_start k.region == a) copies
 
 -- the part of a copy at an address
 abbrev pub part_at : ℕ → Copy → Option Part
@@ -46,10 +47,14 @@ is_dropped copies inside a = is_some (starts_at copies a)
 
 -- ---- bytes
 
--- the bytes of the runs, whether their values differ or not
-abbrev pub run_spans : List Copy → List Span
-run_spans copies =
-    map (λ k. record { start = run_start k.run; length = run_end k.run - run_start k.run }) copies
+-- the bytes of the regions, whether their values differ or not
+abbrev pub region_spans : List Copy → List Span
+region_spans copies =
+    map (λ k. record {
+      start = region_start k.region;
+      length = region_end k.region - region_start
+          k.region;
+    }) copies
 
 -- where a segment loads the bytes of the file from a place up to another
 abbrev pub loaded_span : ℕ → ℕ → Segment → List Span
@@ -68,7 +73,7 @@ header_spans bytes =
 -- all bytes of the old image that may differ in the new one
 abbrev pub changed_spans : List ℕ → List Copy → List Span
 changed_spans bytes [] = []
-changed_spans bytes copies = run_spans copies ++ header_spans bytes
+changed_spans bytes copies = region_spans copies ++ header_spans bytes
 
 -- the pages that the old image hasn't
 abbrev pub new_span : List ℕ → Rewritten → Span

@@ -1,5 +1,5 @@
--- Where the copies of runs lie: one after the other from an address on, each behind the fewest
--- bytes 90 for which no sequence touches it, the jump to it or the bytes between. Own.
+-- Where the copies of regions lie: one after the other from an address on, each after the fewest
+-- NOPs for which no sequence touches it, the jump to it or the bytes between. Own.
 use Rattle.std.specs.Prelude.{ℕ, zero, suc, ◌+◌, ◌-◌, ◌&&◌, ◌||◌, not, nat_le, nat_lt, map, Bool}
 use Rattle.std.specs.Prelude.{true, false, List, [], ◌∷◌, ◌++◌, length, replicate, slice_get}
 use Rattle.std.specs.Prelude.{Option, Some, None, Result, Ok, Err, if◌then◌else◌}
@@ -10,7 +10,7 @@ use Rattle.erim_defs.specs.Inspection.Occurrence.{occurrence_at}
 use Rattle.erim_defs.specs.Machine.Least.{least_below}
 use Rattle.erim_defs.specs.Encoding.Grammar.{every}
 use Rattle.erim_defs.specs.Output.LayImage.{multiple_from}
-use Rattle.erim_defs.specs.Rewriting.Sites.{Run, run_start, run_end}
+use Rattle.erim_defs.specs.Rewriting.Sites.{Region, region_start, region_end}
 use Rattle.erim_defs.specs.Rewriting.Copies.{Same, Part, jump, bytes_of, copy_parts}
 
 -- ---- codes with other bytes at some addresses
@@ -23,12 +23,12 @@ pub record Patch : Type 0 where
 abbrev pub covers : Patch → ℕ → Bool
 covers p a = nat_le p.at a && nat_lt a (p.at + length p.bytes)
 
-abbrev pub joined : {X : Type 0} → Option (Option X) → Option X
-joined None = None
-joined (Some x) = x
+abbrev pub flatten : {X : Type 0} → Option (Option X) → Option X
+flatten None = None
+flatten (Some x) = x
 
 abbrev pub over : Patch → Code → Code
-over p c = λ a. if covers p a then joined (slice_get p.bytes (a - p.at)) else c a
+over p c = λ a. if covers p a then flatten (slice_get p.bytes (a - p.at)) else c a
 
 -- the first of them lies on top
 abbrev pub over_all : List Patch → Code → Code
@@ -37,16 +37,16 @@ over_all (p ∷ ps) c = over p (over_all ps c)
 
 -- ---- copies
 
--- the copy of a run: from the address first on pad bytes 90, and then its parts
+-- the copy of a region: from the address first on pad NOPs, and then its parts
 pub record Copy : Type 0 where
-  pub run : Run
+  pub region : Region
   pub first : ℕ
   pub pad : ℕ
   pub parts : List Part
 
-abbrev pub candidate : Run → ℕ → ℕ → Copy
+abbrev pub candidate : Region → ℕ → ℕ → Copy
 candidate r first pad =
-    record { run = r; first = first; pad = pad; parts = copy_parts r (first + pad) }
+    record { region = r; first = first; pad = pad; parts = copy_parts r (first + pad) }
 
 abbrev pub copy_at : Copy → ℕ
 copy_at k = k.first + k.pad
@@ -57,46 +57,46 @@ piece k = replicate k.pad 0x90 ++ bytes_of k.parts
 
 -- the jump to it
 abbrev pub jump_to : Copy → Part
-jump_to k = jump Same (run_start k.run) (run_start k.run) (copy_at k)
+jump_to k = jump Same (region_start k.region) (region_start k.region) (copy_at k)
 
--- how many bytes a run has behind its jump
-abbrev pub run_rest : Run → ℕ
-run_rest r = run_end r - run_start r - 5
+-- how many bytes a region has after its jump
+abbrev pub region_rest : Region → ℕ
+region_rest r = region_end r - region_start r - 5
 
--- what stands in the run's place
-abbrev pub run_bytes : Copy → List ℕ
-run_bytes k = (jump_to k).bytes ++ replicate (run_rest k.run) 0x90
+-- what stands in the region's place
+abbrev pub region_bytes : Copy → List ℕ
+region_bytes k = (jump_to k).bytes ++ replicate (region_rest k.region) 0x90
 
 -- all of it can be spelled
 abbrev pub is_spelled : Copy → Bool
 is_spelled k = every (λ p. p.fits) (jump_to k ∷ k.parts)
 
--- ---- the code, as far as it is known when some runs have their copies and others have none yet
+-- ---- the code, as far as it is known when some regions have their copies and others have none yet
 
-abbrev pub run_patch : Copy → Patch
-run_patch k = record { at = run_start k.run; bytes = map Some (run_bytes k) }
+abbrev pub region_patch : Copy → Patch
+region_patch k = record { at = region_start k.region; bytes = map Some (region_bytes k) }
 
--- of a run without a copy the jump begins with E9, and its other bytes aren't known yet
-abbrev pub open_patch : Run → Patch
+-- of a region without a copy the jump begins with E9, and its other bytes aren't known yet
+abbrev pub open_patch : Region → Patch
 open_patch r = record {
-  at = run_start r;
-  bytes = Some 0xE9 ∷ None ∷ None ∷ None ∷ None ∷ replicate (run_rest r) (Some 0x90);
+  at = region_start r;
+  bytes = Some 0xE9 ∷ None ∷ None ∷ None ∷ None ∷ replicate (region_rest r) (Some 0x90);
 }
 
 abbrev pub segment_bytes : List Copy → List ℕ
 segment_bytes copies = flat_map piece copies
 
 -- zeros up to the page's end, and one page more while copies are to come
-abbrev pub zeros_behind : ℕ → List Run → ℕ
-zeros_behind n [] = multiple_from 4096 n - n
-zeros_behind n later = multiple_from 4096 n - n + 4096
+abbrev pub zeros_after : ℕ → List Region → ℕ
+zeros_after n [] = multiple_from 4096 n - n
+zeros_after n later = multiple_from 4096 n - n + 4096
 
-abbrev pub segment_patch : ℕ → List Copy → List Run → Patch
+abbrev pub segment_patch : ℕ → List Copy → List Region → Patch
 segment_patch base copies later =
     let bytes = segment_bytes copies in
     record {
       at = base;
-      bytes = map Some (bytes ++ replicate (zeros_behind (length bytes) later) 0);
+      bytes = map Some (bytes ++ replicate (zeros_after (length bytes) later) 0);
     }
 
 -- the old code, and where the copies begin
@@ -104,14 +104,14 @@ pub record Ground : Type 0 where
   pub code : Code
   pub base : ℕ
 
-unfoldable pub known : Ground → List Copy → List Run → Code
-known g copies later =
+unfoldable pub known_code : Ground → List Copy → List Region → Code
+known_code g copies later =
     over (segment_patch g.base copies later)
-    (over_all (map run_patch copies ++ map open_patch later) g.code)
+    (over_all (map region_patch copies ++ map open_patch later) g.code)
 
 -- ---- no sequence touches bytes
 
--- a sequence at an address has a byte at another one, or behind it
+-- a sequence at an address has a byte at another one, or after it
 abbrev pub goes_past : ℕ → Option Found → Bool
 goes_past low None = false
 goes_past low (Some o) = nat_lt low (o.at + o.len)
@@ -124,51 +124,54 @@ unfoldable pub none_from : ℕ → ℕ → (ℕ → Bool) → Bool
 none_from a zero test = true
 none_from a (suc n) test = not (test a) && none_from (suc a) n test
 
--- none has a byte from low up to high; a sequence has at most 8
+-- none has a byte from low up to high. A sequence has at most 8 bytes, so one that begins below
+-- low - 8 has none there.
 unfoldable pub is_untouched : Code → ℕ → ℕ → Bool
 is_untouched c low high = none_from (low - 8) (high - (low - 8)) (reaches c low)
 
 -- none touches the copy with the bytes before it, or the jump to it
 abbrev pub is_clean : Code → Copy → Bool
 is_clean c k = is_untouched c k.first (k.first + length (piece k))
-    && is_untouched c (run_start k.run) (run_start k.run + 5)
+    && is_untouched c (region_start k.region) (region_start k.region + 5)
 
 -- ---- the layout
 
 -- with a candidate the trying ends: it is clean, or it can't be spelled, and then there is none
-abbrev pub ends_trying : Ground → List Copy → List Run → Copy → Bool
+abbrev pub ends_trying : Ground → List Copy → List Region → Copy → Bool
 ends_trying g copies later k =
-    not (is_spelled k) || is_clean (known g (copies ++ k ∷ []) later) k
+    not (is_spelled k) || is_clean (known_code g (copies ++ k ∷ []) later) k
 
--- behind how few bytes 90 that is
-abbrev pub least_pad : Ground → List Copy → List Run → Run → ℕ → Option ℕ
+-- after how few NOPs that is
+abbrev pub least_pad : Ground → List Copy → List Region → Region → ℕ → Option ℕ
 least_pad g copies later r first =
     least_below 16 (λ pad. ends_trying g copies later (candidate r first pad))
 
 abbrev pub if_spelled : Copy → Option Copy
 if_spelled k = if is_spelled k then Some k else None
 
-abbrev pub padded : Run → ℕ → Option ℕ → Option Copy
-padded r first None = None
-padded r first (Some pad) = if_spelled (candidate r first pad)
+abbrev pub padded_copy : Region → ℕ → Option ℕ → Option Copy
+padded_copy r first None = None
+padded_copy r first (Some pad) = if_spelled (candidate r first pad)
 
--- the copy of a run behind others, where there is one
-unfoldable pub placed : Ground → List Copy → List Run → Run → Option Copy
-placed g copies later r =
+-- the copy of a region after others, where there is one
+unfoldable pub placed_copy : Ground → List Copy → List Region → Region → Option Copy
+placed_copy g copies later r =
     let first = g.base + length (segment_bytes copies) in
-    padded r first (least_pad g copies later r first)
+    padded_copy r first (least_pad g copies later r first)
 
--- a run of which a byte lies elsewhere in the file too has none
-abbrev pub copy_of : (Run → Bool) → Ground → List Copy → List Run → Run → Option Copy
-copy_of elsewhere g copies later r = if elsewhere r then None else placed g copies later r
+-- a region of which a byte lies elsewhere in the file too has none
+abbrev pub copy_of : (Region → Bool) → Ground → List Copy → List Region → Region → Option Copy
+copy_of elsewhere g copies later r = if elsewhere r then None else placed_copy g copies later r
 
-abbrev pub or_run : Option Copy → Run → (Copy → Result (List Copy) Run) → Result (List Copy) Run
-or_run None r next = Err r
-or_run (Some k) r next = next k
+abbrev pub or_region : Option Copy → Region → (Copy → Result (List Copy) Region)
+    → Result (List Copy) Region
+or_region None r next = Err r
+or_region (Some k) r next = next k
 
--- the copies of all runs behind others, or the first run that has none
-unfoldable pub laid : (Run → Bool) → Ground → List Copy → List Run → Result (List Copy) Run
-laid elsewhere g copies [] = Ok copies
-laid elsewhere g copies (r ∷ later) =
-    or_run (copy_of elsewhere g copies later r) r
-    (λ k. laid elsewhere g (copies ++ k ∷ []) later)
+-- the copies of all regions after others, or the first region that has none
+unfoldable pub copies_from : (Region → Bool) → Ground → List Copy → List Region
+    → Result (List Copy) Region
+copies_from elsewhere g copies [] = Ok copies
+copies_from elsewhere g copies (r ∷ later) =
+    or_region (copy_of elsewhere g copies later r) r
+    (λ k. copies_from elsewhere g (copies ++ k ∷ []) later)

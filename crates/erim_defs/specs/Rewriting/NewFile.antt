@@ -1,7 +1,8 @@
--- The file of a rewritten image: the old bytes with the runs changed, the new segment, and a new
+-- The file of a rewritten image: the old bytes with the regions changed, the new segment, and a new
 -- table of program headers. ELF-64 Object File Format, "File header" and "Program header"; the
 -- places are own.
-use Rattle.std.specs.Prelude.{ℕ, ◌+◌, ◌-◌, ◌*◌, ◌==◌, ◌&&◌, ◌||◌, not, max, nat_le, nat_lt, map}
+use Rattle.std.specs.Prelude.{◌≤◌, ℕ, ◌+◌, ◌-◌, ◌*◌, ◌==◌, ◌&&◌, ◌||◌, not, max, nat_le, nat_lt}
+use Rattle.std.specs.Prelude.{map}
 use Rattle.std.specs.Prelude.{Bool, List, [], ◌∷◌, ◌++◌, length, take, drop, slice_range, count_by}
 use Rattle.std.specs.Prelude.{Option, Some, None, if◌then◌else◌}
 use Rattle.std.specs.List.{list_any}
@@ -17,8 +18,8 @@ use Rattle.erim_defs.specs.Machine.Least.{least_below}
 use Rattle.erim_defs.specs.Machine.Pages.{code_bytes}
 use Rattle.erim_defs.specs.Output.LayImage.{Piece, multiple_from, with_padding, halves, xwords}
 use Rattle.erim_defs.specs.Output.LayImage.{program_header}
-use Rattle.erim_defs.specs.Rewriting.Sites.{Function, Program, Run, run_start, run_end}
-use Rattle.erim_defs.specs.Rewriting.Layout.{Copy, run_bytes, segment_bytes}
+use Rattle.erim_defs.specs.Rewriting.Sites.{Function, Program, Region, region_start, region_end}
+use Rattle.erim_defs.specs.Rewriting.Layout.{Copy, region_bytes, segment_bytes}
 
 -- ---- what rewriting looks at
 
@@ -35,7 +36,7 @@ program_of bytes = record {
 
 -- ---- where the new segment begins
 
--- behind the highest page of an executable segment
+-- after the highest page of an executable segment
 abbrev pub high_page : List Segment → ℕ
 high_page [] = 0
 high_page (s ∷ ss) = if is_executable s then max (end_page s) (high_page ss) else high_page ss
@@ -83,11 +84,11 @@ in_note bytes low high = list_any (meets_as PT_NOTE low high) (headers bytes)
 abbrev pub in_other_part : List ℕ → ℕ → ℕ → Bool
 in_other_part bytes low high = nat_lt 1 (count_by (meets_as PT_LOAD low high) (headers bytes))
 
--- a byte of the run in the file also lies in the file header, in a PT_NOTE or in another PT_LOAD
-unfoldable pub lies_elsewhere : List ℕ → Run → Bool
+-- a byte of the region in the file also lies in the file header, in a PT_NOTE or in another PT_LOAD
+unfoldable pub lies_elsewhere : List ℕ → Region → Bool
 lies_elsewhere bytes r =
-    let low = file_place (segments bytes) (run_start r) in
-    let high = low + (run_end r - run_start r) in
+    let low = file_place (segments bytes) (region_start r) in
+    let high = low + (region_end r - region_start r) in
     nat_lt low FILE_HEADER_SIZE || (in_note bytes low high || in_other_part bytes low high)
 
 -- a byte of e_phoff or e_phnum lies in a PT_NOTE
@@ -100,11 +101,11 @@ header_in_note bytes = in_note bytes E_PHOFF (E_PHOFF + 8) || in_note bytes E_PH
 abbrev pub with_bytes : ℕ → List ℕ → List ℕ → List ℕ
 with_bytes place new old = take place old ++ (new ++ drop (place + length new) old)
 
--- each run's bytes at its place
+-- each region's bytes at its place
 abbrev pub with_jumps : List Segment → List Copy → List ℕ → List ℕ
 with_jumps ss [] file = file
 with_jumps ss (k ∷ ks) file =
-    with_jumps ss ks (with_bytes (file_place ss (run_start k.run)) (run_bytes k) file)
+    with_jumps ss ks (with_bytes (file_place ss (region_start k.region)) (region_bytes k) file)
 
 abbrev pub segment_place : List ℕ → ℕ
 segment_place bytes = multiple_from 4096 (length bytes)
@@ -112,6 +113,12 @@ segment_place bytes = multiple_from 4096 (length bytes)
 abbrev pub new_table_place : List ℕ → List Copy → ℕ
 new_table_place bytes copies =
     multiple_from 8 (segment_place bytes + length (segment_bytes copies))
+
+-- the bytes of a region stand in the file from its place on, five at least
+pub record HasPlace (bytes : List ℕ) (r : Region) : Type 0 where
+  pub within : file_place (segments bytes) (region_start r) + (region_end r - region_start r)
+      ≤ length bytes
+  pub five : region_start r + 5 ≤ region_end r
 
 -- the headers as they stood
 abbrev pub old_table : List ℕ → List ℕ
@@ -129,16 +136,16 @@ new_piece bytes base copies = record {
   align = 4096;
 }
 
--- the file with its runs changed, and what it says of the table
-abbrev pub changed : List ℕ → List Copy → List ℕ
-changed bytes copies =
+-- the file with its regions changed, and what it says of the table
+abbrev pub file_with_jumps : List ℕ → List Copy → List ℕ
+file_with_jumps bytes copies =
     with_bytes E_PHOFF (xwords (new_table_place bytes copies ∷ []))
     (with_bytes E_PHNUM (halves ((header_count bytes + 1) ∷ []))
     (with_jumps (segments bytes) copies bytes))
 
--- behind it the new segment, and then the headers and one more
+-- after it the new segment, and then the headers and one more
 unfoldable pub new_file : List ℕ → ℕ → List Copy → List ℕ
 new_file bytes base copies =
     with_padding (new_table_place bytes copies)
-    (with_padding (segment_place bytes) (changed bytes copies) ++ segment_bytes copies)
+    (with_padding (segment_place bytes) (file_with_jumps bytes copies) ++ segment_bytes copies)
     ++ (old_table bytes ++ program_header (new_piece bytes base copies))

@@ -1,4 +1,4 @@
--- Where an image can be rewritten: the runs of instructions round its unsafe sequences, and why
+-- Where an image can be rewritten: the regions of instructions round its unsafe sequences, and why
 -- there are none. Own, after ERIM (USENIX Security 2019), section 4.2.
 use Rattle.std.specs.Prelude.{ℕ, zero, suc, ◌+◌, ◌==◌, ◌&&◌, ◌||◌, not, max, nat_le, nat_lt, Bool}
 use Rattle.std.specs.Prelude.{true, false, List, [], ◌∷◌, ◌++◌, length, sum_by, Option, Some, None}
@@ -14,7 +14,7 @@ use Rattle.erim_defs.specs.declared.rewriting.Why.{Why}
 use Rattle.erim_defs.specs.declared.rewriting.Why.TheVariants as reasons
 use Rattle.erim_defs.specs.Inspection.Trust.{TrustValue, in_text_of}
 use Rattle.erim_defs.specs.Inspection.Unsafe.{option_list}
-use Rattle.erim_defs.specs.Rewriting.Standing.{Standing, behind, sweep, in_part, in_disp}
+use Rattle.erim_defs.specs.Rewriting.Standing.{Standing, insn_end, sweep, in_part, in_disp}
 use Rattle.erim_defs.specs.Rewriting.Standing.{in_number, rel_of, has_rip, target_of}
 
 -- ---- functions
@@ -53,13 +53,13 @@ insns_in (Some f) = insns_of f
 -- instructions from the one on that holds an address
 abbrev pub insns_from : ℕ → List Standing → List Standing
 insns_from a [] = []
-insns_from a (i ∷ is) = if nat_le (behind i) a then insns_from a is else i ∷ is
+insns_from a (i ∷ is) = if nat_le (insn_end i) a then insns_from a is else i ∷ is
 
--- ---- runs
+-- ---- regions
 
--- A run: the instructions of its function from its first one on, and the unsafe sequences that it
--- is for, by rising address. It takes no more of the instructions than it needs.
-pub record Run : Type 0 where
+-- A region: the instructions of its function from its first one on, and the unsafe sequences that
+-- it is for, by rising address. It takes no more of the instructions than it needs.
+pub record Region : Type 0 where
   pub from : List Standing
   pub elements : List Found
 
@@ -69,49 +69,49 @@ start_of (i ∷ is) = i.at
 
 abbrev pub end_of : List Standing → ℕ
 end_of [] = 0
-end_of (i ∷ []) = behind i
+end_of (i ∷ []) = insn_end i
 end_of (i ∷ is) = end_of is
 
-abbrev pub run_start : Run → ℕ
-run_start r = start_of r.from
+abbrev pub region_start : Region → ℕ
+region_start r = start_of r.from
 
 -- up to where it has to go: it has 5 bytes at least, for a jump, and all bytes of its elements
 abbrev pub goal : ℕ → List Found → ℕ
 goal start [] = start + 5
 goal start (e ∷ es) = max (e.at + e.len) (goal start es)
 
-abbrev pub run_goal : Run → ℕ
-run_goal r = goal (run_start r) r.elements
+abbrev pub region_goal : Region → ℕ
+region_goal r = goal (region_start r) r.elements
 
 -- the shortest front that reaches an address, or all
 abbrev pub reaching : ℕ → List Standing → List Standing
 reaching a [] = []
-reaching a (i ∷ is) = i ∷ (if nat_le a (behind i) then [] else reaching a is)
+reaching a (i ∷ is) = i ∷ (if nat_le a (insn_end i) then [] else reaching a is)
 
-abbrev pub run_insns : Run → List Standing
-run_insns r = reaching (run_goal r) r.from
+abbrev pub region_insns : Region → List Standing
+region_insns r = reaching (region_goal r) r.from
 
-abbrev pub run_end : Run → ℕ
-run_end r = end_of (run_insns r)
+abbrev pub region_end : Region → ℕ
+region_end r = end_of (region_insns r)
 
--- the run of an element alone
-abbrev pub begun : Program → Found → Run
-begun p e = record {
+-- the region of an element alone
+abbrev pub region_at : Program → Found → Region
+region_at p e = record {
   from = insns_from e.at (insns_in (first_of (in_function e.at) p.functions));
   elements = e ∷ [];
 }
 
--- an element whose first byte lies in the run before is taken into that
-abbrev pub joins : Run → Found → Bool
-joins r e = nat_lt e.at (run_end r)
+-- an element whose first byte lies in the region before is taken into that
+abbrev pub joins : Region → Found → Bool
+joins r e = nat_lt e.at (region_end r)
 
--- the run of an element, behind another or none; begin makes that of an element alone
-abbrev pub run_for : (Found → Run) → Option Run → Found → Run
-run_for begin None e = begin e
-run_for begin (Some r) e =
+-- the region of an element, after another or none; begin makes that of an element alone
+abbrev pub region_for : (Found → Region) → Option Region → Found → Region
+region_for begin None e = begin e
+region_for begin (Some r) e =
     if joins r e then record r { elements = r.elements ++ e ∷ [] } else begin e
 
--- ---- why an element can't be rewritten, on its run as it stands once the element is taken in
+-- ---- why an element can't be rewritten, on its region as it stands once the element is taken in
 
 -- n addresses from one on
 unfoldable pub addresses : ℕ → ℕ → List ℕ
@@ -146,7 +146,7 @@ targets p = flat_map branch_targets p.functions ++ (p.trust.entries ++ p.entry �
 
 -- the core lies wholly in an instruction
 abbrev pub holds_core : Found → Standing → Bool
-holds_core e i = nat_le i.at e.at && nat_le (e.at + 3) (behind i)
+holds_core e i = nat_le i.at e.at && nat_le (e.at + 3) (insn_end i)
 
 -- the core lies wholly in one of some instructions, and that passes a test
 abbrev pub core_in : List Standing → Found → (Standing → Bool) → Bool
@@ -172,7 +172,7 @@ in_plain_number e i =
 abbrev pub in_opcode : Found → Standing → Bool
 in_opcode e i = not (some_core (λ a. in_disp i a || in_number i a) e)
 
--- what each reason asks, in their order, of a run by its start, its goal and its instructions
+-- what each reason asks, in their order, of a region by its start, its goal and its instructions
 abbrev pub tests : Program → ℕ → ℕ → List Standing → Found → List (Bool × Why)
 tests p start goal is e =
     (some_byte (in_text_of p.trust) e, reasons.Trusted)
@@ -192,37 +192,40 @@ abbrev pub first_why : List (Bool × Why) → Option Why
 first_why [] = None
 first_why (x ∷ xs) = if x.0 then Some x.1 else first_why xs
 
-unfoldable pub why : Program → Run → Found → Option Why
-why p r e = first_why (tests p (run_start r) (run_goal r) (run_insns r) e)
+unfoldable pub why : Program → Region → Found → Option Why
+why p r e = first_why (tests p (region_start r) (region_goal r) (region_insns r) e)
 
--- ---- all runs
+-- ---- all regions
 
 -- the first element that can't be rewritten, and why
-pub record Refused : Type 0 where
+pub record Obstacle : Type 0 where
   pub at : ℕ
   pub why : Why
 
--- the run before, where an element doesn't join it
-abbrev pub left_by : Option Run → Found → List Run
+-- the region before, where an element doesn't join it
+abbrev pub left_by : Option Region → Found → List Region
 left_by None e = []
 left_by (Some r) e = if joins r e then [] else r ∷ []
 
-abbrev pub with_runs : List Run → Result (List Run) Refused → Result (List Run) Refused
-with_runs before (Ok runs) = Ok (before ++ runs)
-with_runs before (Err refused) = Err refused
+abbrev pub with_regions : List Region → Result (List Region) Obstacle
+    → Result (List Region) Obstacle
+with_regions before (Ok regions) = Ok (before ++ regions)
+with_regions before (Err refused) = Err refused
 
-abbrev pub or_refuse : Option Why → Found → Result (List Run) Refused → Result (List Run) Refused
-or_refuse (Some w) e runs = Err (record { at = e.at; why = w })
-or_refuse None e runs = runs
+abbrev pub or_refuse : Option Why → Found → Result (List Region) Obstacle
+    → Result (List Region) Obstacle
+or_refuse (Some w) e regions = Err (record { at = e.at; why = w })
+or_refuse None e regions = regions
 
--- the runs of elements by rising address, or the first that is refused by a judge of runs; before
--- is the run that was begun last
-unfoldable pub runs_by : (Found → Run) → (Run → Found → Option Why) → Option Run → List Found
-    → Result (List Run) Refused
-runs_by begin judge before [] = Ok (option_list before)
-runs_by begin judge before (e ∷ es) =
-    let r = run_for begin before e in
-    or_refuse (judge r e) e (with_runs (left_by before e) (runs_by begin judge (Some r) es))
+-- the regions of elements by rising address, or the first that is refused by a judge of regions;
+-- before is the region that was begun last
+unfoldable pub regions_by : (Found → Region) → (Region → Found → Option Why) → Option Region
+    → List Found
+    → Result (List Region) Obstacle
+regions_by begin judge before [] = Ok (option_list before)
+regions_by begin judge before (e ∷ es) =
+    let r = region_for begin before e in
+    or_refuse (judge r e) e (with_regions (left_by before e) (regions_by begin judge (Some r) es))
 
-abbrev pub runs_from : Program → Option Run → List Found → Result (List Run) Refused
-runs_from p = runs_by (begun p) (why p)
+abbrev pub regions_from : Program → Option Region → List Found → Result (List Region) Obstacle
+regions_from p = regions_by (region_at p) (why p)

@@ -21,9 +21,9 @@ pub record Standing : Type 0 where
   pub disp : ℕ
   pub imm : ℕ
 
--- the address behind it
-abbrev pub behind : Standing → ℕ
-behind i = i.at + length i.bytes
+-- the address after it
+abbrev pub insn_end : Standing → ℕ
+insn_end i = i.at + length i.bytes
 
 -- ---- what stands at an address, and what follows it
 
@@ -52,7 +52,7 @@ then_more (Some i) more = i ∷ more i
 unfoldable pub sweep : ℕ → ℕ → List ℕ → List Standing
 sweep zero at bytes = []
 sweep (suc n) at bytes =
-    then_more (standing at bytes) (λ i. sweep n (behind i) (drop (length i.bytes) bytes))
+    then_more (standing at bytes) (λ i. sweep n (insn_end i) (drop (length i.bytes) bytes))
 
 -- ---- its parts
 
@@ -62,13 +62,13 @@ in_part place len a = nat_le place a && nat_lt a (place + len)
 
 -- the address of its displacement, which stands before the number
 abbrev pub disp_place : Standing → ℕ
-disp_place i = behind i - (i.imm + i.disp)
+disp_place i = insn_end i - (i.imm + i.disp)
 
 abbrev pub in_disp : Standing → ℕ → Bool
 in_disp i = in_part (disp_place i) i.disp
 
 abbrev pub in_number : Standing → ℕ → Bool
-in_number i = in_part (behind i - i.imm) i.imm
+in_number i = in_part (insn_end i - i.imm) i.imm
 
 -- the offset of a direct branch
 abbrev pub rel_of : Insn → Option ℤ
@@ -77,7 +77,7 @@ rel_of (Jmp rel) = Some rel
 rel_of (Call rel) = Some rel
 rel_of other = None
 
--- the byte behind an opcode of one byte, or of two behind 0F
+-- the byte after an opcode of one byte, or of two after 0F
 abbrev pub modrm_of : Standing → ℕ
 modrm_of i = if slice_index i.bytes i.skip == 0x0F then slice_index i.bytes (i.skip + 2)
     else slice_index i.bytes (i.skip + 1)
@@ -94,7 +94,7 @@ moved_by from z = (from + cast_unsigned w64 z) % 2 ^ 64
 abbrev pub rip_target : Standing → ℕ
 rip_target i =
     let place = disp_place i - i.at in
-    moved_by (behind i) (signed_value (slice_range i.bytes place (place + i.disp)))
+    moved_by (insn_end i) (signed_value (slice_range i.bytes place (place + i.disp)))
 
 -- where a direct branch leads
 abbrev pub led_to : ℕ → Option ℤ → Option ℕ
@@ -102,4 +102,4 @@ led_to from None = None
 led_to from (Some rel) = Some (moved_by from rel)
 
 abbrev pub target_of : Standing → Option ℕ
-target_of i = led_to (behind i) (rel_of i.insn)
+target_of i = led_to (insn_end i) (rel_of i.insn)

@@ -2,9 +2,9 @@
 
 ghost use Rattle.std.specs.Prelude.{◌≡◌, ◌<◌, ◌≤◌, ◌+◌, ◌*◌, ◌/◌, ◌==◌, ◌^◌, ℕ, Some, None, length};
 ghost use Rattle.erim_defs.specs.Machine.Pages.{with_value_at, IsSound};
-ghost use Rattle.erim_defs.specs.Machine.Count.{mapped};
+ghost use Rattle.erim_defs.specs.Machine.Count.{mapped_pages};
 ghost use Rattle.erim_defs.specs.Inspection.Image.{IsPlaced, loaded_byte};
-ghost use Rattle.page_store.specs.Answers.{rights_in};
+ghost use Rattle.erim_defs.specs.Machine.Access.{rights_in};
 ghost use Rattle.erim_process.specs.ImagePages.{IsWritable, bytes_over};
 
 use erim_defs::page::PAGE_SIZE;
@@ -60,14 +60,14 @@ pub(super) fn load_page<P: Pages>(
     requires page { page < 2 ^ 35 }
     requires sound { IsSound rights }
     requires unmapped { rights_in (P.seen pages.old) page ≡ None }
-    requires free { mapped (rights_in (P.seen pages.old)) < P.frames pages.old }
+    requires free { mapped_pages (rights_in (P.seen pages.old)) < P.frames pages.old }
     ensures rights { rights_in (P.seen pages.new)
         ≡ with_value_at (rights_in (P.seen pages.old)) page (Some rights) }
     ensures bytes { P.bytes pages.new
         ≡ bytes_over (λ q. q == page) (loaded_byte bytes.now segment.now) (P.bytes pages.old) }
     ensures frames { P.frames pages.new ≡ P.frames pages.old }
-    ensures count { mapped (rights_in (P.seen pages.new))
-        ≡ mapped (rights_in (P.seen pages.old)) + 1 }
+    ensures count { mapped_pages (rights_in (P.seen pages.new))
+        ≡ mapped_pages (rights_in (P.seen pages.old)) + 1 }
 {
     pages.map_zero(
         page,

@@ -31,9 +31,9 @@ pub(super) fn page_rights(image: &Image, asked: u8, page: u64) -> Rights
     ensures value { result ≡ page_rights image.now asked page }
     ensures sound { IsSound result }
 {
-    let rights = Rights::unpublished(asked, image.page_key(page));
+    let rights = Rights::unpublished_rights(asked, image.page_key(page));
     if image.trust().is_trusted(PAGE_SIZE * page) {
-        rights.published()
+        rights.published_rights()
     } else {
         rights
     }

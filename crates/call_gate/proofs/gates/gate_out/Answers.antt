@@ -5,4 +5,4 @@ use Rattle.call_gate.proofs.gates.gate_out.Goals as goal
 
 pub returns : goal.returns
 unfolding gate_out check_of
-returns c = λ trust. refl
+returns c = refl

@@ -8,7 +8,7 @@ use Rattle.copy_layout.proofs.placing.placed_in.Goals as goal
 pub returns-then-branch : goal.returns-then-branch
 returns-then-branch c =
     let t = c.args.trial.now in
-    let r = c.args.run.now in
+    let r = c.args.region.now in
     let first = c.first-first.ensures.first in
     let some : if_spelled (candidate_in t r c.loop-pad.pad) ≡ Some c.in-Some.copy =
     rw (← first) (sym c.in_ok-copy.ensures ∙ c.in-Some.is) in
@@ -18,7 +18,7 @@ returns-then-branch c =
 pub loop-pad-preserved : goal.loop-pad-preserved
 loop-pad-preserved c =
     let t = c.args.trial.now in
-    let r = c.args.run.now in
+    let r = c.args.region.now in
     let first = c.first-first.ensures.first in
     let some : if_spelled (candidate_in t r c.loop-pad.pad) ≡ Some c.in-Some.copy =
     rw (← first) (sym c.in_ok-copy.ensures ∙ c.in-Some.is) in

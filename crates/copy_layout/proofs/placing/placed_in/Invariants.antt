@@ -5,4 +5,4 @@ use Rattle.copy_layout.proofs.placing.placed_in.Given as goal
 
 abbrev pub invariant-loop-pad : goal.invariant-loop-pad
 invariant-loop-pad l = (k : ℕ) → k < l.pad
-    → ends_trial l.trial (candidate l.run (trial_first l.trial) k) ≡ false
+    → ends_trial l.trial (candidate l.region (trial_first l.trial) k) ≡ false

@@ -7,7 +7,7 @@ unfolding trust_in
 returns c =
     rw (
       c.in_ok-spans.ensures,
-      c.in_ok-entries.ensures,
+      c.in_ok-entry_addresses.ensures,
       c.in_ok-keys.ensures,
       c.in_ok-keys-2.ensures,
       c.domains.ensures,

@@ -4,5 +4,5 @@ use Rattle.erim_commands.proofs.DeliveryLemmas.{carries_nothing, untouched}
 use Rattle.erim_commands.proofs.delivery.conclude.Goals as goal
 
 pub returns-in-Err : goal.returns-in-Err
-returns-in-Err g c = λ plan made. carries_nothing plan _ _ 5 refl
+returns-in-Err g c = λ plan replies. carries_nothing plan _ _ 5 refl
     (untouched (world g.S.Store g.K.Sink c.args.store.now c.args.out.now))

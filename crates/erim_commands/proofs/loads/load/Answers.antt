@@ -1,7 +1,7 @@
 use Rattle.std.proofs.Common.{inl, inr}
 use Rattle.erim_defs.specs.Output.Texts.{error_line}
 use Rattle.erim_commands.specs.Delivery.{world}
-use Rattle.erim_commands.specs.Replies.{told}
+use Rattle.erim_commands.specs.Replies.{line_reply}
 use Rattle.erim_commands.proofs.DeliveryLemmas.{delivers_put, holds_more, puts_as, unloaded}
 use Rattle.erim_commands.proofs.loads.load.Goals as goal
 
@@ -22,7 +22,7 @@ returns-in-Err-TooLarge g c =
     λ text line. inl (
       holds_more c.args.name.now old.held c.args.limit c.in-Err-TooLarge.field-0-0 load.too_large.0
           load.too_large.1,
-      delivers_put (told c.args.status text) old new c.put-in-Err-TooLarge.result
+      delivers_put (line_reply c.args.status text) old new c.put-in-Err-TooLarge.result
           (record { held = load.kept; loads = load.loads; saves = load.saves })
           (puts_as c.code_of.result _ c.args.line.now (error_line text) old new
           c.put-in-Err-TooLarge.result c.code_of.ensures line c.put-in-Err-TooLarge.ensures),

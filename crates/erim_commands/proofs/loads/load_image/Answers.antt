@@ -26,8 +26,9 @@ returns-in-Ok-read_image g c =
     let slice = c.as_slice.result.now in
     let read = read_accepted slice c.in-Ok-read_image.image (first_fault slice)
     c.in-Ok-read_image.ensures.faulty c.in-Ok-read_image.ensures.accepted in
-    file_passes image_format c.args.name.now c.in-Ok.bytes.items c.in-Ok-read_image.image old new loaded.0
-    loaded.1 loaded.2 (ap image_fault (sym c.as_slice.ensures.value) ∙ read.0) (read.1
+    file_passes image_format c.args.name.now c.in-Ok.bytes.items c.in-Ok-read_image.image old new
+    loaded.0 loaded.1 loaded.2 loaded.3
+    (ap image_fault (sym c.as_slice.ensures.value) ∙ read.0) (read.1
     ∙ c.as_slice.ensures.value)
 
 pub returns : goal.returns
@@ -39,7 +40,9 @@ returns g c =
     let loaded = c.in-Ok.ensures (codes "image too large") refl in
     let slice = c.as_slice.result.now in
     let read = c.in-Err-read_image.ensures in
-    file_faulty image_format c.args.name.now c.in-Ok.bytes.items slice old mid new c.faulty_image.result
-    c.conclude.result loaded.0 loaded.1 loaded.2 c.as_slice.ensures.value
-    (λ next. read_faulty c.in-Err-read_image.fault (first_fault slice) next c.faulty_image.result
-    read.faulty read.accepted c.faulty_image.ensures) c.conclude.ensures
+    file_faulty image_format c.args.name.now c.in-Ok.bytes.items slice old mid new
+    c.image_fault_reply.result
+    c.conclude.result loaded.0 loaded.1 loaded.2 loaded.3 c.as_slice.ensures.value
+    (λ next. read_faulty c.in-Err-read_image.fault (first_fault slice) next
+    c.image_fault_reply.result read.faulty read.accepted c.image_fault_reply.ensures)
+    c.conclude.ensures

@@ -26,7 +26,8 @@ returns-in-Ok-read_journal-clause-passes g c =
     let read = c.in-Ok-read_journal.ensures.exact in
     let same = c.as_slice.ensures.value in
     file_passes journal_format c.args.name.now c.in-Ok.bytes.items _ old new loaded.0 loaded.1
-    loaded.2 (ap journal_refusal (sym same) ∙ journal_accepted c.as_slice.result.now read.0)
+    loaded.2 loaded.3
+    (ap journal_refusal (sym same) ∙ journal_accepted c.as_slice.result.now read.0)
     (read.1 ∙ ap journal_of same)
 
 pub returns-clause-passes : goal.returns-clause-passes
@@ -38,7 +39,8 @@ returns-clause-passes g c =
     let loaded = c.in-Ok.ensures (codes "journal too large") refl in
     let slice = c.as_slice.result.now in
     file_faulty journal_format c.args.name.now c.in-Ok.bytes.items slice old mid new
-    c.faulty_journal.result c.conclude.result loaded.0 loaded.1 loaded.2 c.as_slice.ensures.value
+    c.journal_fault_reply.result c.conclude.result loaded.0 loaded.1 loaded.2 loaded.3
+    c.as_slice.ensures.value
     (λ next. journal_faulty c.in-Err-read_journal.fault (journal_fault slice) next
-    c.faulty_journal.result c.in-Err-read_journal.ensures.exact c.faulty_journal.ensures)
+    c.journal_fault_reply.result c.in-Err-read_journal.ensures.exact c.journal_fault_reply.ensures)
     c.conclude.ensures

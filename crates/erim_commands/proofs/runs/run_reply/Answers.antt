@@ -29,7 +29,7 @@ returns c =
     })) entries
     ∙ ap (λ (s : Setup). journal_text (run_journal s p.journal)) setup in
     let Q : List Entry → Type 0 = λ es. IsJournal (run_journal p.setup es) in
-    λ told_of text. run_replied told_of p.setup c.args.journal.now p.journal (state_of p) _ _ _
+    λ text_of text. run_replied text_of p.setup c.args.journal.now p.journal (state_of p) _ _ _
     (record {
       whole = record {
         runs = c.journal.ensures.run;

@@ -8,7 +8,7 @@ use Rattle.erim_commands.specs.Delivery.{world}
 use Rattle.erim_commands.specs.Replies.{IsAnswer}
 use Rattle.erim_commands.proofs.PlanLemmas.{tells_end, tells_faultless, tells_memory}
 use Rattle.erim_commands.proofs.PromiseLemmas.{tells_words, tells_refusal, tells_work, tells_fault}
-use Rattle.erim_commands.proofs.PromiseLemmas.{tells_complete}
+use Rattle.erim_commands.proofs.PromiseLemmas.{tells_complete, Laws}
 use Rattle.erim_commands.proofs.top_call.erim_plain.Goals as goal
 
 pub returns : goal.returns
@@ -16,6 +16,13 @@ returns g c =
     let words = command_of (map string_bytes c.args.words.now) in
     let old = world g.S.Store g.K.Sink c.args.store.now c.args.out.now in
     let new = world g.S.Store g.K.Sink c.obey.new.store c.obey.new.out in
+    let laws : Laws = record {
+      rewriting = c.rewriting_is_clean.ensures;
+      replaying = c.unbroken.ensures;
+      generated_length = c.generated_startable.ensures.length;
+      generated_accepted = c.generated_startable.ensures.accepted;
+      generated_startable = c.generated_startable.ensures.startable;
+    } in
     record {
       ends = c.obey.ensures;
       end = tells_end IsAnswer (plan_for words) old new c.obey.result c.obey.ensures;
@@ -25,9 +32,9 @@ returns g c =
           tells_refusal JournalRefused words old new c.obey.result (inr (inl refl)) c.obey.ensures;
       rewriting =
           tells_refusal RewriteRefused words old new c.obey.result (inr (inr refl)) c.obey.ensures;
-      work = tells_work words old new c.obey.result c.answered.ensures c.obey.ensures;
+      work = tells_work words old new c.obey.result laws c.obey.ensures;
       fault = tells_fault words old new c.obey.result c.obey.ensures;
       faultless = tells_faultless IsAnswer (plan_for words) old new c.obey.result c.obey.ensures;
       memory = tells_memory IsAnswer (plan_for words) old new c.obey.result c.obey.ensures;
-      complete = tells_complete words old new c.obey.result c.answered.ensures c.obey.ensures;
+      complete = tells_complete words old new c.obey.result laws c.obey.ensures;
     }

@@ -6,7 +6,7 @@ use Rattle.erim_defs.specs.Output.Words.{command_of}
 use Rattle.erim_commands.specs.declared.reply.Status.TheVariants.{NotUnderstood}
 use Rattle.erim_commands.specs.Commands.{plan_for}
 use Rattle.erim_commands.specs.Delivery.{world}
-use Rattle.erim_commands.specs.Replies.{told}
+use Rattle.erim_commands.specs.Replies.{line_reply}
 use Rattle.erim_commands.proofs.DeliveryLemmas.{carries_line, carries_nothing, untouched}
 use Rattle.erim_commands.proofs.top_call.obey.Goals as goal
 
@@ -17,7 +17,7 @@ returns-in-Ok-None g c =
     let new = world g.S.Store g.K.Sink c.args.store.now c.put.new.out in
     let meant = rw c.in-Ok-None.field-0-is at c.in-Ok-None.ensures.meant in
     rw (← meant)
-    (carries_line (told NotUnderstood (codes "words not understood"))
+    (carries_line (line_reply NotUnderstood (codes "words not understood"))
     old new c.put.result (record { held = refl; loads = refl; saves = refl })
     (rw c.code_of.ensures at c.put.ensures))
 

@@ -1,5 +1,5 @@
 -- What is within the limit is all that the reader gave.
-use Rattle.std.proofs.Common.{◌≡◌, ◌+◌, ◌-◌, ◌^◌, ◌<◌, ◌*◌, ◌∙◌, sym, ap, length, min}
+use Rattle.std.proofs.Common.{◌≡◌, ◌+◌, ◌-◌, ◌^◌, ◌<◌, ◌*◌, ◌∙◌, ap, length, min}
 use native.Mathlib.Omega.{arith}
 use Rattle.erim_io.proofs.Known.{all-of-fewer}
 use Rattle.erim_io.proofs.file_store.read_within.Goals as goal

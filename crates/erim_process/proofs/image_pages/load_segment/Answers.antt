@@ -3,7 +3,7 @@ use Rattle.erim_defs.specs.declared.machine.Rights.{Rights}
 use Rattle.erim_defs.specs.Machine.Pages.{RightsMap, ByteMap, with_value_at}
 use Rattle.erim_defs.specs.Inspection.Image.{first_page, end_page, loaded_byte, touches}
 use Rattle.erim_defs.specs.Machine.Start.{asked_of}
-use Rattle.page_store.specs.Answers.{rights_in}
+use Rattle.erim_defs.specs.Machine.Access.{rights_in}
 use Rattle.erim_process.specs.ImagePages.{page_rights, rights_over, bytes_over}
 use Rattle.erim_process.proofs.LoadLemmas.{unmapped_next, rights_next, bytes_next, touches_page}
 use Rattle.erim_process.proofs.LoadLemmas.{between_touches}

@@ -3,7 +3,7 @@ use Rattle.std.proofs.Common.{arith}
 use Rattle.std.proofs.Math.Seq.{drop-length}
 use Rattle.erim_defs.specs.declared.segment.Segment.{Segment}
 use Rattle.erim_defs.specs.Machine.Pages.{RightsMap, ByteMap}
-use Rattle.erim_defs.specs.Machine.Count.{mapped}
+use Rattle.erim_defs.specs.Machine.Count.{mapped_pages}
 use Rattle.erim_defs.specs.Inspection.Image.{loaded_byte, page_count, segments, touches}
 use Rattle.erim_defs.specs.Machine.Start.{asked_of, byte_in}
 use Rattle.erim_defs.proofs.CountLemmas.{mapped_none}
@@ -24,7 +24,7 @@ loop-left-init g c =
           ∙ ap (λ (ts : List Segment). segment_rights ts c.args.image.now) none;
       bytes = c.requires.zero ∙ bytes_empty c.args.image.now ∙ ap (byte_in c.args.image.now) none;
       frames = refl;
-      count = ap mapped c.requires.empty ∙ mapped_none ∙ ap (sum_by page_count) none;
+      count = ap mapped_pages c.requires.empty ∙ mapped_none ∙ ap (sum_by page_count) none;
     }
 
 pub load_segment-requires-clause-unmapped : goal.load_segment-requires-clause-unmapped

@@ -1,10 +1,10 @@
 use Rattle.std.proofs.Common.{◌≡◌, ℕ, ◌+◌, ◌≤◌, ◌<◌, ◌^◌, None, Some, ap, ◌∙◌, arith}
 use Rattle.erim_defs.specs.declared.machine.Rights.{Rights}
 use Rattle.erim_defs.specs.Machine.Pages.{RightsMap, with_value_at}
-use Rattle.erim_defs.specs.Machine.Count.{mapped}
+use Rattle.erim_defs.specs.Machine.Count.{mapped_pages}
 use Rattle.erim_defs.specs.Machine.Start.{unpublished_rights, is_stack}
 use Rattle.erim_defs.proofs.CountLemmas.{mapped_more}
-use Rattle.page_store.specs.Answers.{rights_in}
+use Rattle.erim_defs.specs.Machine.Access.{rights_in}
 use Rattle.erim_process.specs.ImagePages.{is_between, rights_over}
 use Rattle.erim_process.proofs.LoadLemmas.{rights_next, stack_test, unmapped_next, zeroed_kept}
 use Rattle.erim_process.proofs.image_pages.map_stack.Goals as goal
@@ -30,13 +30,14 @@ loop-page-preserved g c =
     unmapped_next is_stack 0x7FFE0 page (λ _. unpublished_rights 3 0) old now
     c.loop-page.invariant.rights c.requires.unmapped (stack_test page low high) in
     let rights : rights_in (g.P.Memory.seen c.map_zero.new.self)
-    ≡ with_value_at now page (Some c.unpublished.result) =
+    ≡ with_value_at now page (Some c.unpublished_rights.result) =
     ap rights_in c.map_zero.ensures.seen in
-    let more : mapped (rights_in (g.P.Memory.seen c.map_zero.new.self)) ≡ mapped now + 1 =
-    ap mapped rights ∙ mapped_more now page c.unpublished.result small none in
+    let more : mapped_pages (rights_in (g.P.Memory.seen c.map_zero.new.self))
+    ≡ mapped_pages now + 1 =
+    ap mapped_pages rights ∙ mapped_more now page c.unpublished_rights.result small none in
     record {
       rights = rights
-          ∙ ap (λ (r : Rights). with_value_at now page (Some r)) c.unpublished.ensures
+          ∙ ap (λ (r : Rights). with_value_at now page (Some r)) c.unpublished_rights.ensures
           ∙ ap (λ (m : RightsMap). with_value_at m page (Some (unpublished_rights 3 0)))
           c.loop-page.invariant.rights
           ∙ rights_next 0x7FFE0 page (λ _. unpublished_rights 3 0) old low;

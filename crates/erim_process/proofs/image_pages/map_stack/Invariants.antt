@@ -1,7 +1,7 @@
 use Rattle.std.proofs.Common.{◌≡◌, ◌+◌}
-use Rattle.erim_defs.specs.Machine.Count.{mapped}
+use Rattle.erim_defs.specs.Machine.Count.{mapped_pages}
 use Rattle.erim_defs.specs.Machine.Start.{unpublished_rights}
-use Rattle.page_store.specs.Answers.{rights_in}
+use Rattle.erim_defs.specs.Machine.Access.{rights_in}
 use Rattle.erim_process.specs.ImagePages.{is_between, rights_over}
 use Rattle.erim_process.proofs.image_pages.map_stack.Given as goal
 
@@ -12,6 +12,6 @@ invariant-loop-page g l = record {
       (rights_in (g.P.Memory.seen l.fn.pages));
   bytes : g.P.Memory.bytes l.pages ≡ g.P.Memory.bytes l.fn.pages;
   frames : g.P.Memory.frames l.pages ≡ g.P.Memory.frames l.fn.pages;
-  count : mapped (rights_in (g.P.Memory.seen l.pages)) + 0x7FFE0
-      ≡ mapped (rights_in (g.P.Memory.seen l.fn.pages)) + l.page;
+  count : mapped_pages (rights_in (g.P.Memory.seen l.pages)) + 0x7FFE0
+      ≡ mapped_pages (rights_in (g.P.Memory.seen l.fn.pages)) + l.page;
 }

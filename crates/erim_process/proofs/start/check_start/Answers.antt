@@ -3,7 +3,7 @@ use Rattle.std.proofs.lemmas.Grind.{common_steps}
 use Rattle.erim_defs.specs.Machine.Start.{trusted_unsafe}
 use Rattle.erim_process.proofs.StartLemmas.{trusted_first}
 use Rattle.image_code.specs.Stretches.{code_in}
-use Rattle.erim_process.specs.StartFaults.{start_fault}
+use Rattle.erim_defs.specs.Machine.StartFaults.{start_fault}
 use Rattle.erim_process.proofs.start.check_start.Goals as goal
 
 pub returns-in-Some : goal.returns-in-Some

@@ -1,8 +1,6 @@
-use Rattle.std.proofs.Common.{arith, ◌≡◌, ◌∷◌, [], sum_by, List, sym, subst, ap, ◌∙◌}
+use Rattle.std.proofs.Common.{arith, ◌∷◌, [], sym, subst, ap, ◌∙◌}
 use Rattle.std.specs.List.{All}
-use Rattle.erim_defs.specs.declared.segment.Segment.{Segment}
 use Rattle.erim_defs.specs.declared.machine.Thread.{Thread}
-use Rattle.erim_defs.specs.Inspection.Image.{page_count, segments}
 use Rattle.erim_defs.proofs.AcceptedLemmas.{heaps_low}
 use Rattle.trusted_heap.specs.Blocks.{EndsLow}
 use Rattle.trusted_heap.specs.HeapValue.{HeapValue}

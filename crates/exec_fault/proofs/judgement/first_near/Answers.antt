@@ -1,4 +1,4 @@
-use Rattle.page_store.specs.Answers.{rights_in}
+use Rattle.erim_defs.specs.Machine.Access.{rights_in}
 use Rattle.exec_fault.proofs.VerdictLemmas.{scan_decides}
 use Rattle.exec_fault.proofs.WindowLemmas.{Beside, window_scan}
 use Rattle.exec_fault.proofs.judgement.first_near.Goals as goal

@@ -3,7 +3,7 @@ use Rattle.erim_defs.specs.Output.LayImage.{file_with_pieces, pieces}
 use Rattle.image_gen.specs.Parts.{part_values}
 use Rattle.image_gen.proofs.image.push_pieces.Given as goal
 
--- what is left, behind what was appended, gives the whole
+-- what is left, after what was appended, gives the whole
 abbrev pub invariant-loop-part : goal.invariant-loop-part
 invariant-loop-part l = file_with_pieces l.bytes.items
     (pieces (length l.bytes.items) (part_values (drop l.part-index l.parts)) l.notes)

@@ -1,7 +1,7 @@
 use Rattle.std.proofs.Common.{◌<◌, ◌^◌, refl, arith, inl, inr}
 use Rattle.std.proofs.lemmas.Bool.{cases_lt}
 use Rattle.map_calls.proofs.FreeLemmas.{free_from, lowest_found, lowest_none, not_mapped, taken_by}
-use Rattle.page_store.specs.Answers.{rights_in}
+use Rattle.erim_defs.specs.Machine.Access.{rights_in}
 use Rattle.map_calls.proofs.mapping.lowest_free.Goals as goal
 
 pub loop-page-preserved : goal.loop-page-preserved

@@ -1,15 +1,15 @@
 use Rattle.std.proofs.Common.{◌≡◌, ◌+◌, ◌∙◌, ℕ, nat_lt, None, refl, ap, arith}
 use Rattle.std.proofs.Common.{true, false}
 use Rattle.erim_defs.specs.Machine.CallResult.{Answer, Change}
-use Rattle.erim_defs.specs.Machine.Count.{mapped}
+use Rattle.erim_defs.specs.Machine.Count.{mapped_pages}
 use Rattle.erim_defs.specs.Machine.MapCalls.{has_pin, mapped_in, new_rights, range_of}
 use Rattle.erim_defs.specs.Machine.Pages.{RightsMap, ByteMap}
-use Rattle.map_calls.specs.Ranges.{pages_of, rights_within, zeros_within}
+use Rattle.map_calls.specs.Ranges.{page_range, rights_within, zeros_within}
 use Rattle.map_calls.proofs.CallLemmas.{change_seen, pinned_seen, protected_seen}
 use Rattle.map_calls.proofs.CountedLemmas.{mapped_without}
 use Rattle.map_calls.proofs.MmapLemmas.{is_placed, mmap_at_is, room_seen}
 use Rattle.map_calls.proofs.WalkLemmas.{within_inside, within_twice, zeros_twice}
-use Rattle.page_store.specs.Answers.{rights_in}
+use Rattle.erim_defs.specs.Machine.Access.{rights_in}
 use Rattle.map_calls.proofs.mapping.map_at.Goals as goal
 
 pub returns-then-is_protected-clause-answer : goal.returns-then-is_protected-clause-answer
@@ -17,12 +17,12 @@ returns-then-is_protected-clause-answer g c = λ s t sees p.
     let is = c.in_ok-range.ensures in
     let placed = is_placed c.args.addr c.args.len is.0 c.if-addr-lt-LOWEST_FIXED.false is.1 in
     let r = range_of c.args.addr c.args.len in
-    let span = pages_of c.in_ok-range.range in
+    let span = page_range c.in_ok-range.range in
     let rights = rights_in (g.P.Memory.seen c.args.pages.now) in
     let guard = protected_seen s t r span c.args.trust.now rights c.args.pkru c.is_protected.result
     sees.trust sees.rights p is.2 c.is_protected.ensures in
     mmap_at_is s t c.args.addr c.args.len c.args.asked true
-    (nat_lt (s.setup.frames + mapped_in s.rights r) (mapped s.rights + r.count)) (has_pin s r)
+    (nat_lt (s.setup.frames + mapped_in s.rights r) (mapped_pages s.rights + r.count)) (has_pin s r)
     (record { placed = placed; guard = guard ∙ c.if-is_protected.true; room = refl; pin = refl })
 
 pub returns-then-has_pin-clause-answer : goal.returns-then-has_pin-clause-answer
@@ -30,7 +30,7 @@ returns-then-has_pin-clause-answer g c = λ s t sees p.
     let is = c.in_ok-range.ensures in
     let placed = is_placed c.args.addr c.args.len is.0 c.if-addr-lt-LOWEST_FIXED.false is.1 in
     let r = range_of c.args.addr c.args.len in
-    let span = pages_of c.in_ok-range.range in
+    let span = page_range c.in_ok-range.range in
     let rights = rights_in (g.P.Memory.seen c.args.pages.now) in
     let guard = protected_seen s t r span c.args.trust.now rights c.args.pkru c.is_protected.result
     sees.trust sees.rights p is.2 c.is_protected.ensures in
@@ -60,7 +60,7 @@ map_range-requires-clause-free g c =
     let span = c.in_ok-range.range in
     let old = rights_in (g.P.Memory.seen c.args.pages.now) in
     let without = mapped_without span.count old span.first span.low in
-    let new = ap mapped c.unmap_range.ensures.rights in
+    let new = ap mapped_pages c.unmap_range.ensures.rights in
     let counted = c.mapped_in.ensures.count in
     let frames = c.unmap_range.ensures.frames in
     let free = c.free_frames.ensures in
@@ -73,7 +73,7 @@ returns-clause-answer g c = λ s t sees p.
     let is = c.in_ok-range.ensures in
     let placed = is_placed c.args.addr c.args.len is.0 c.if-addr-lt-LOWEST_FIXED.false is.1 in
     let r = range_of c.args.addr c.args.len in
-    let span = pages_of c.in_ok-range.range in
+    let span = page_range c.in_ok-range.range in
     let rights = rights_in (g.P.Memory.seen c.args.pages.now) in
     let guard = protected_seen s t r span c.args.trust.now rights c.args.pkru c.is_protected.result
     sees.trust sees.rights p is.2 c.is_protected.ensures in
@@ -104,5 +104,6 @@ returns-clause-answer g c = λ s t sees p.
       pin = pin ∙ c.if-has_pin.false;
     })
     ∙ ap (λ (y : Change). Answer c.args.addr y) (change_seen s t r span x rights
-    (rights_in (g.P.Memory.seen new)) bytes (g.P.Memory.bytes new) sees.rights sees.bytes is.2 is_new
+    (rights_in (g.P.Memory.seen new)) bytes
+    (g.P.Memory.bytes new) sees.rights sees.bytes is.2 is_new
     is_fresh)

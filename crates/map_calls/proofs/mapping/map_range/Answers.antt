@@ -1,13 +1,13 @@
 use Rattle.std.proofs.Common.{◌≡◌, ◌<◌, ◌+◌, ◌^◌, None, Option, Some, ap, ◌∙◌}
 use Rattle.std.proofs.Common.{arith}
 use Rattle.erim_defs.specs.declared.machine.Rights.{Rights}
-use Rattle.erim_defs.specs.Machine.Count.{mapped}
+use Rattle.erim_defs.specs.Machine.Count.{mapped_pages}
 use Rattle.erim_defs.specs.Machine.MapCalls.{new_rights}
 use Rattle.erim_defs.specs.Machine.Pages.{RightsMap, ByteMap, with_value_at, with_zero_page}
 use Rattle.erim_defs.proofs.CountLemmas.{mapped_more}
 use Rattle.map_calls.specs.Ranges.{rights_within, zeros_within}
 use Rattle.map_calls.proofs.WalkLemmas.{within_behind, within_next, zeros_step}
-use Rattle.page_store.specs.Answers.{rights_in}
+use Rattle.erim_defs.specs.Machine.Access.{rights_in}
 use Rattle.map_calls.proofs.mapping.map_range.Goals as goal
 
 pub map_zero-requires-clause-unmapped : goal.map_zero-requires-clause-unmapped
@@ -36,14 +36,16 @@ loop-page-preserved g c =
     ap (λ (m : RightsMap). m p) l.invariant.rights
     ∙ (within_behind old first p p f (omega arith)
     ∙ c.requires.unmapped p low (omega (arith, t, end.end))) in
-    let more = mapped_more (rights_in (g.P.Memory.seen l.pages)) p c.unpublished.result user none in
-    let new = ap mapped (ap rights_in c.map_zero.ensures.seen) in
+    let more = mapped_more (rights_in
+    (g.P.Memory.seen l.pages)) p c.unpublished_rights.result user none in
+    let new = ap mapped_pages (ap rights_in c.map_zero.ensures.seen) in
     let so_far = l.invariant.counted in
     record {
       rights = ap rights_in c.map_zero.ensures.seen
-          ∙ ap (λ (m : RightsMap). with_value_at m p (Some c.unpublished.result)) l.invariant.rights
+          ∙ ap (λ (m : RightsMap). with_value_at m p
+          (Some c.unpublished_rights.result)) l.invariant.rights
           ∙ ap (λ (x : Rights). with_value_at (rights_within old first p f) p (Some x))
-          c.unpublished.ensures
+          c.unpublished_rights.ensures
           ∙ within_next old first p f low;
       bytes = c.map_zero.ensures.bytes
           ∙ ap (λ (b : ByteMap). with_zero_page b p) l.invariant.bytes

@@ -1,8 +1,8 @@
 use Rattle.std.proofs.Common.{◌≡◌, ◌+◌}
-use Rattle.erim_defs.specs.Machine.Count.{mapped}
+use Rattle.erim_defs.specs.Machine.Count.{mapped_pages}
 use Rattle.erim_defs.specs.Machine.MapCalls.{new_rights}
 use Rattle.map_calls.specs.Ranges.{rights_within, zeros_within}
-use Rattle.page_store.specs.Answers.{rights_in}
+use Rattle.erim_defs.specs.Machine.Access.{rights_in}
 use Rattle.map_calls.proofs.mapping.map_range.Given as goal
 
 abbrev pub invariant-loop-page : goal.invariant-loop-page
@@ -12,7 +12,7 @@ invariant-loop-page g l = record {
       (λ _. new_rights l.asked);
   bytes : g.P.Memory.bytes l.pages
       ≡ zeros_within (g.P.Memory.bytes l.fn.pages) l.range.first l.page;
-  counted : mapped (rights_in (g.P.Memory.seen l.pages)) + l.range.first
-      ≡ mapped (rights_in (g.P.Memory.seen l.fn.pages)) + l.page;
+  counted : mapped_pages (rights_in (g.P.Memory.seen l.pages)) + l.range.first
+      ≡ mapped_pages (rights_in (g.P.Memory.seen l.fn.pages)) + l.page;
   frames : g.P.Memory.frames l.pages ≡ g.P.Memory.frames l.fn.pages;
 }

@@ -1,7 +1,7 @@
 use Rattle.std.proofs.Common.{◌≡◌, ℕ, ◌+◌, ◌-◌, is_some, sym, ap, ◌∙◌, arith}
 use Rattle.erim_defs.specs.Machine.Count.{count_below}
 use Rattle.map_calls.proofs.CountedLemmas.{count_start, count_next, count_to}
-use Rattle.page_store.specs.Answers.{rights_in}
+use Rattle.erim_defs.specs.Machine.Access.{rights_in}
 use Rattle.map_calls.proofs.mapping.mapped_in.Goals as goal
 
 pub loop-page-init : goal.loop-page-init

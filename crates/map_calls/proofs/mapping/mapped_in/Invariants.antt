@@ -1,6 +1,6 @@
 use Rattle.std.proofs.Common.{◌≡◌, ◌+◌, ◌-◌, ◌≤◌, is_some}
 use Rattle.erim_defs.specs.Machine.Count.{count_below}
-use Rattle.page_store.specs.Answers.{rights_in}
+use Rattle.erim_defs.specs.Machine.Access.{rights_in}
 use Rattle.map_calls.proofs.mapping.mapped_in.Given as goal
 
 abbrev pub invariant-loop-page : goal.invariant-loop-page

@@ -3,7 +3,7 @@ use Rattle.erim_defs.specs.declared.machine.Rights.{Rights}
 use Rattle.erim_defs.specs.Machine.Pages.{RightsMap, with_value_at}
 use Rattle.map_calls.specs.Ranges.{anew, rights_within}
 use Rattle.map_calls.proofs.WalkLemmas.{within_behind, within_more, within_step}
-use Rattle.page_store.specs.Answers.{rights_in}
+use Rattle.erim_defs.specs.Machine.Access.{rights_in}
 use Rattle.map_calls.proofs.protection.ask_range.Goals as goal
 
 pub loop-page-preserved : goal.loop-page-preserved
@@ -22,7 +22,8 @@ loop-page-preserved g c =
       low = omega (arith, high, end);
       rights = c.ask_page.ensures.rights
           ∙ ap (λ (m : RightsMap). with_value_at m p (change (m p))) l.invariant.rights
-          ∙ ap (λ (o : Option Rights). with_value_at (rights_within old first l.from change) p (change o))
+          ∙ ap (λ (o : Option Rights). with_value_at (rights_within old first l.from change) p
+          (change o))
           (within_behind old first l.from p change page.0)
           ∙ within_step old first l.from p change refl from page.0
           (λ q x y. sym (ap (λ (m : RightsMap). m q) l.invariant.rights) ∙ page.3 q x y);

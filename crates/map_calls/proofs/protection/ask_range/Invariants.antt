@@ -1,6 +1,6 @@
 use Rattle.std.proofs.Common.{◌≡◌, ◌+◌, ◌-◌, ◌≤◌}
 use Rattle.map_calls.specs.Ranges.{anew, rights_within}
-use Rattle.page_store.specs.Answers.{rights_in}
+use Rattle.erim_defs.specs.Machine.Access.{rights_in}
 use Rattle.map_calls.proofs.protection.ask_range.Given as goal
 
 abbrev pub invariant-loop-page : goal.invariant-loop-page

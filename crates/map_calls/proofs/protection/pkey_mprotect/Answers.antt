@@ -1,6 +1,6 @@
 use Rattle.std.proofs.Common.{◌≡◌, ◌∙◌, sym, ap, Err, rules}
 use Rattle.erim_defs.specs.Machine.MapCalls.{pkey_mprotect_result, protect, range_of}
-use Rattle.map_calls.specs.Answers.{answered}
+use Rattle.map_calls.specs.Answers.{map_answer}
 use Rattle.map_calls.specs.Keys.{named_key}
 use Rattle.map_calls.proofs.CallLemmas.{foreign_seen, protect_no_key, protect_no_prot}
 use Rattle.map_calls.proofs.protection.pkey_mprotect.Goals as goal
@@ -18,7 +18,7 @@ returns-in_err-named-clause-answer g c = λ s t sees keys p.
     let key = named_key c.args.key in
     protect_no_key s t c.args.addr c.args.len c.args.prot key
     (foreign_seen s c.args.keys.now key keys ∙ is.1)
-    ∙ sym (ap (answered g.P.Memory s t c.args.pages.now) (e ∙ ap Err is.0))
+    ∙ sym (ap (map_answer g.P.Memory s t c.args.pages.now) (e ∙ ap Err is.0))
 
 pub returns-clause-answer : goal.returns-clause-answer
 unfolding pkey_mprotect_result

@@ -1,7 +1,7 @@
 use Rattle.std.proofs.Common.{◌+◌, ◌/◌, None, refl, sym, ap, ◌∙◌, arith}
 use Rattle.erim_defs.specs.Machine.Pages.{RightsMap, ByteMap, with_value_at, with_zero_page}
 use Rattle.map_calls.proofs.WalkLemmas.{within_more, within_step, zeros_more, zeros_step}
-use Rattle.page_store.specs.Answers.{rights_in}
+use Rattle.erim_defs.specs.Machine.Access.{rights_in}
 use Rattle.map_calls.proofs.unmapping.unmap_range.Goals as goal
 
 pub loop-page-preserved : goal.loop-page-preserved
@@ -36,7 +36,8 @@ returns-clause-rights g c =
     let l = c.loop-page in
     let end = c.end.ensures.end in
     l.invariant.rights
-    ∙ within_more old range.first l.from (range.first + range.count) (λ _. None) refl l.invariant.from
+    ∙ within_more old range.first l.from (range.first + range.count)
+    (λ _. None) refl l.invariant.from
     l.invariant.low (λ q x y. sym (ap (λ (m : RightsMap). m q) l.invariant.rights)
     ∙ c.in_default.ensures q x (omega (arith, y, end)))
 

@@ -1,6 +1,6 @@
 use Rattle.std.proofs.Common.{◌≡◌, ◌+◌, ◌-◌, ◌≤◌, None}
 use Rattle.map_calls.specs.Ranges.{rights_within, zeros_within}
-use Rattle.page_store.specs.Answers.{rights_in}
+use Rattle.erim_defs.specs.Machine.Access.{rights_in}
 use Rattle.map_calls.proofs.unmapping.unmap_range.Given as goal
 
 abbrev pub invariant-loop-page : goal.invariant-loop-page

@@ -7,7 +7,7 @@ returns c =
       c.in_ok-push_header.ensures,
       c.in_ok-push_at-2.ensures,
       c.in_ok-push_at.ensures,
-      c.table_place.ensures,
+      c.new_table_place.ensures,
       c.header_table.ensures,
       c.segment_place-place.ensures.place,
       c.in_ok-file.ensures,

@@ -1,5 +1,5 @@
 use Rattle.std.proofs.Common.{append_assoc}
-use Rattle.erim_defs.specs.Output.MadeTexts.{soak_line}
+use Rattle.erim_defs.specs.Output.GeneratedTexts.{soak_line}
 use Rattle.report_text.proofs.soak.soak_line.Goals as goal
 
 pub returns : goal.returns

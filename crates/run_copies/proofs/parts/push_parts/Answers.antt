@@ -7,7 +7,7 @@ use Rattle.run_copies.proofs.CopyLemmas.{pushed_stuck}
 use Rattle.run_copies.proofs.parts.push_parts.Goals as goal
 
 pub loop-insn-init : goal.loop-insn-init
-loop-insn-init c = pushed_first c.args.run.now c.args.first c.args.bytes.now.items
+loop-insn-init c = pushed_first c.args.region.now c.args.first c.args.bytes.now.items
 
 pub returns-then-not-branch-clause-fits : goal.returns-then-not-branch-clause-fits
 returns-then-not-branch-clause-fits c =
@@ -52,7 +52,7 @@ returns-clause-bytes c =
     (omega (arith, c.len-2.ensures, c.loop-insn.bytes.ok.0)) c.end.ensures.end
     c.loop-insn-test.false in
     subst (λ b. OnOk c.push_back.result (b ≡ true → c.push_back.new.bytes.items
-    ≡ c.args.bytes.now.items ++ bytes_of (copy_parts c.args.run.now
+    ≡ c.args.bytes.now.items ++ bytes_of (copy_parts c.args.region.now
     (c.args.first + length c.args.bytes.now.items)))) same
     (subst (λ xs. OnOk c.push_back.result (all_fit (jump Back at c.end.result c.end.result ∷ [])
     ≡ true → c.push_back.new.bytes.items ≡ xs)) told c.push_back.ensures.bytes)

@@ -1,7 +1,7 @@
 use Rattle.std.proofs.Common.{arith, ◌+◌, ◌-◌, ◌∙◌, sym}
 use Rattle.erim_defs.proofs.OccurrenceLemmas.{occurrence_inside}
 use Rattle.erim_defs.specs.Inspection.Code.{laid_at}
-use Rattle.erim_defs.proofs.SafeLemmas.{length-check_of, safe_by_gate, safe_by_check}
+use Rattle.erim_defs.proofs.SafeLemmas.{safe_by_gate, safe_by_check}
 use Rattle.safe_occurrence.proofs.safe.is_safe.Goals as goal
 
 pub overflow_sub-behind : goal.overflow_sub-behind

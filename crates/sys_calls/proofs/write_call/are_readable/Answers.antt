@@ -1,7 +1,8 @@
 use Rattle.std.proofs.Common.{arith, ◌+◌, ◌-◌, ◌^◌, ◌≤◌, ◌∙◌, false, sym, ap}
 use Rattle.std.specs.Prelude.{is_none}
-use Rattle.erim_defs.specs.Machine.Access.{stop, stop_or, whole}
-use Rattle.page_store.specs.Answers.{rights_in}
+use Rattle.erim_defs.specs.Machine.Access.{stop, whole}
+use Rattle.erim_defs.specs.Inspection.Code.{or_else}
+use Rattle.erim_defs.specs.Machine.Access.{rights_in}
 use Rattle.sys_calls.proofs.ReadableLemmas.{stop_next, stop_nothing, load_one, load_none}
 use Rattle.sys_calls.proofs.ReadableLemmas.{stop_high, not_below}
 use Rattle.sys_calls.proofs.write_call.are_readable.Goals as goal
@@ -42,7 +43,7 @@ loop-step-preserved g c =
       c.load.ensures.frames ∙ c.loop-step.invariant.2,
       c.loop-step.invariant.3 ∙ stop_next w false c.args.pkru c.args.buf c.args.n i
           c.loop-step-test.true
-          ∙ ap (λ o. stop_or o (stop w false c.args.pkru (c.args.buf + (i + 1))
+          ∙ ap (λ o. or_else o (stop w false c.args.pkru (c.args.buf + (i + 1))
           (c.args.n - (i + 1)))) passes,
     )
 

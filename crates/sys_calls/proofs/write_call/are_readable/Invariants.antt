@@ -1,6 +1,6 @@
 use Rattle.std.proofs.Common.{◌≡◌, ◌+◌, ◌-◌, false}
 use Rattle.erim_defs.specs.Machine.Access.{stop, whole}
-use Rattle.page_store.specs.Answers.{rights_in}
+use Rattle.erim_defs.specs.Machine.Access.{rights_in}
 use Rattle.sys_calls.proofs.write_call.are_readable.Given as goal
 
 abbrev pub invariant-loop-step : goal.invariant-loop-step

@@ -1,6 +1,6 @@
 use Rattle.std.proofs.Common.{arith, ◌≡◌, ◌+◌, ◌%◌, ◌^◌, false, ◌∙◌, ap}
 use Rattle.erim_defs.specs.Machine.Access.{whole}
-use Rattle.page_store.specs.Answers.{rights_in}
+use Rattle.erim_defs.specs.Machine.Access.{rights_in}
 use Rattle.sys_calls.proofs.WriteLemmas.{readable_now, readable_then, readable_low, taken_next}
 use Rattle.sys_calls.proofs.WriteLemmas.{taken_nothing, pushed, pushed_length, ended_at}
 use Rattle.sys_calls.proofs.write_call.copy_bytes.Goals as goal

@@ -1,7 +1,7 @@
 use Rattle.std.proofs.Common.{◌≡◌, ◌≤◌, ◌+◌, ◌-◌, ◌++◌, length, false, None}
 use Rattle.erim_defs.specs.Machine.Access.{stop, whole}
 use Rattle.erim_defs.specs.Machine.Pages.{bytes_of_range}
-use Rattle.page_store.specs.Answers.{rights_in}
+use Rattle.erim_defs.specs.Machine.Access.{rights_in}
 use Rattle.sys_calls.proofs.write_call.copy_bytes.Given as goal
 
 abbrev pub invariant-loop-step : goal.invariant-loop-step

@@ -1,6 +1,6 @@
 use Rattle.std.proofs.Common.{arith, ◌∙◌, ◌++◌, sym, ap}
 use Rattle.erim_defs.specs.Machine.Pages.{bytes_of_range}
-use Rattle.page_store.specs.Answers.{rights_in}
+use Rattle.erim_defs.specs.Machine.Access.{rights_in}
 use Rattle.sys_calls.proofs.CallLemmas.{bad_file, unreadable, no_room, written}
 use Rattle.sys_calls.proofs.write_call.write_out.Goals as goal
 

@@ -1,9 +1,9 @@
 use Rattle.std.proofs.Common.{◌≡◌, ◌-◌, ◌+◌, Some, suc, sym, ◌∙◌, ap, arith}
 use Rattle.erim_process.specs.ProcessValue.{state_of}
-use Rattle.thread_runner.specs.declared.replays.ReplayFault.{ReplayFault}
-use Rattle.thread_runner.specs.declared.replays.ReplayFault.TheVariants.{PastEnd, PastBudget}
-use Rattle.thread_runner.specs.declared.replays.ReplayFault.TheVariants.{NotLive}
-use Rattle.thread_runner.specs.Replays.{fault_of_answer, steps_fault}
+use Rattle.erim_defs.specs.declared.replay_fault.ReplayFault.{ReplayFault}
+use Rattle.erim_defs.specs.declared.replay_fault.ReplayFault.TheVariants.{PastEnd, PastBudget}
+use Rattle.erim_defs.specs.declared.replay_fault.ReplayFault.TheVariants.{NotLive}
+use Rattle.erim_defs.specs.Machine.ReplayFaults.{fault_of_answer, steps_fault}
 use Rattle.thread_runner.proofs.ReplayLemmas.{left_broken, left_on, none_left}
 use Rattle.thread_runner.proofs.replays.make_steps.Goals as goal
 use Rattle.thread_runner.proofs.replays.make_steps.Goals.{After-step_now, After-steps}

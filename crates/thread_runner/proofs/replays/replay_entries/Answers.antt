@@ -1,6 +1,6 @@
 use Rattle.std.proofs.Common.{◌≡◌, Some, None, Err, inr, rules}
 use Rattle.erim_process.specs.ProcessInvariant.{setup_of}
-use Rattle.thread_runner.specs.declared.replays.ReplayFault.TheVariants.{Start}
+use Rattle.erim_defs.specs.declared.replay_fault.ReplayFault.TheVariants.{Start}
 use Rattle.thread_runner.proofs.ReplayLemmas.{start_breaks, start_goes, start_replays}
 use Rattle.thread_runner.proofs.replays.replay_entries.Goals as goal
 
@@ -27,3 +27,9 @@ pub returns-clause-run : goal.returns-clause-run
 returns-clause-run c =
     start_replays (setup_of c.args.setup) c.args.entries.now c.in_ok-process.process _
     c.in_ok-process.ensures.started c.in_ok-make_entries.ensures.run
+
+pub returns-clause-complete : goal.returns-clause-complete
+returns-clause-complete c =
+    let runs = start_replays (setup_of c.args.setup) c.args.entries.now c.in_ok-process.process _
+    c.in_ok-process.ensures.started c.in_ok-make_entries.ensures.run in
+    (_, runs, c.in_ok-make_entries.ensures.over)

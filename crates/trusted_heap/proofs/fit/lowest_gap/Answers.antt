@@ -10,8 +10,8 @@ meets-requires-clause-low c =
     ends_low 0 c.args.blocks.now c.loop-block.block-index _ c.requires.apart
     c.loop-block-test.true
 
-pub unit_behind-unit-requires : goal.unit_behind-unit-requires
-unit_behind-unit-requires c =
+pub unit_after-unit-requires : goal.unit_after-unit-requires
+unit_after-unit-requires c =
     ends_low 0 c.args.blocks.now c.loop-block.block-index _ c.requires.apart
     c.loop-block-test.true
 
@@ -27,8 +27,8 @@ loop-block-preserved c =
     elim c.if-meets.branch [
       | then-meets w ↦ (
         walk_past bs i unit c.args.count c.if-meets.unit end within (sym tells ∙ w.if-meets.true)
-            (w.unit-is ∙ w.unit_behind-unit.ensures.behind) c.loop-block.invariant.0,
-        (let low = w.unit_behind-unit.ensures.low in let is = w.unit-is in
+            (w.unit-is ∙ w.unit_after-unit.ensures.behind) c.loop-block.invariant.0,
+        (let low = w.unit_after-unit.ensures.low in let is = w.unit-is in
             omega (arith, low, is)),
       )
       | else-meets w ↦ (

@@ -1,6 +1,6 @@
 use Rattle.std.proofs.Common.{◌∙◌, sym, ap, arith, true, false}
 use Rattle.erim_defs.specs.Encoding.OpcodeTable.{table_lines, lookup}
-use Rattle.erim_defs.proofs.OpcodeMapLemmas.{row_in_map_is}
+use Rattle.encoding_laws.proofs.OpcodeMapLemmas.{row_in_map_is}
 use Rattle.x86_decode.proofs.body.lookup.Goals as goal
 
 pub returns-then-escape-clause-row : goal.returns-then-escape-clause-row

@@ -1,6 +1,6 @@
 use Rattle.std.proofs.Common.{◌∙◌, sym, ap, arith, true, false}
 use Rattle.erim_defs.specs.Encoding.Decoding.{modrm_follows}
-use Rattle.erim_defs.proofs.OpcodeMapLemmas.{asks_is}
+use Rattle.encoding_laws.proofs.OpcodeMapLemmas.{asks_is}
 use Rattle.x86_decode.proofs.body.modrm_follows.Goals as goal
 
 pub returns-then-escape : goal.returns-then-escape

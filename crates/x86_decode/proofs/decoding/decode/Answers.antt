@@ -1,9 +1,9 @@
 use Rattle.std.proofs.Common.{arith}
 use Rattle.erim_defs.specs.Encoding.Decoding.{decode}
 use Rattle.erim_defs.proofs.ByteLemmas.{bytes_of}
-use Rattle.erim_defs.proofs.EncodingLemmas.{decodes_again}
-use Rattle.erim_defs.proofs.DecodeLemmas.{decodes_one, decode_is_exact}
-use Rattle.erim_defs.proofs.LengthLemmas.{is_whole}
+use Rattle.encoding_laws.proofs.EncodingLemmas.{decodes_again}
+use Rattle.encoding_laws.proofs.DecodeLemmas.{decodes_one, decode_is_exact}
+use Rattle.encoding_laws.proofs.LengthLemmas.{is_whole}
 use Rattle.x86_decode.proofs.decoding.decode.Goals as goal
 
 pub returns-clause-encodings : goal.returns-clause-encodings

@@ -1,8 +1,8 @@
 use Rattle.std.proofs.Common.{ℕ, List, arith, ap, ◌∙◌, Err, Result}
 use Rattle.erim_defs.specs.Encoding.Grammar.{InsnAndSizes}
 use Rattle.erim_defs.specs.declared.grammar.Stop.{Stop}
-use Rattle.erim_defs.proofs.EncodingLemmas.{found_ok, found_short, found_long, found_none}
-use Rattle.erim_defs.proofs.EncodingLemmas.{window_bytes}
+use Rattle.encoding_laws.proofs.EncodingLemmas.{found_ok, found_short, found_long, found_none}
+use Rattle.encoding_laws.proofs.EncodingLemmas.{window_bytes}
 use Rattle.x86_decode.proofs.decoding.decode_window.Goals as goal
 
 abbrev err : Stop → Result (InsnAndSizes × List ℕ) Stop
@@ -10,7 +10,8 @@ err e = Err e
 
 pub overflow_sub-result : goal.overflow_sub-result
 overflow_sub-result c = (found_ok c.args.bytes.now c.window_of-window.result.now c.in-Ok.rest.now
-    (c.in-Ok.insn, c.in-Ok.sizes.skip, c.in-Ok.sizes.disp, c.in-Ok.sizes.imm) c.window_of-window.ensures
+    (c.in-Ok.insn, c.in-Ok.sizes.skip, c.in-Ok.sizes.disp, c.in-Ok.sizes.imm)
+    c.window_of-window.ensures
     (window_bytes c.args.bytes.now c.window_of-window.result.now c.window_of-window.ensures
     (λ i. omega (arith, c.type_inv.bytes i))) c.in-Ok.ensures).0
 

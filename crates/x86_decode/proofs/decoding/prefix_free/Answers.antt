@@ -1,4 +1,4 @@
-use Rattle.erim_defs.proofs.EncodingLemmas.{prefix_free}
+use Rattle.encoding_laws.proofs.EncodingLemmas.{prefix_free}
 use Rattle.x86_decode.proofs.decoding.prefix_free.Goals as goal
 
 pub returns : goal.returns

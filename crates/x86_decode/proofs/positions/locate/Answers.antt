@@ -1,6 +1,6 @@
 use Rattle.std.proofs.Common.{◌∙◌, ap, sym, arith}
-use Rattle.x86_decode.specs.Layout.{layout_of}
-use Rattle.erim_defs.proofs.EncodingLemmas.{window_bytes}
+use Rattle.x86_decode.specs.PartPlaces.{part_places}
+use Rattle.encoding_laws.proofs.EncodingLemmas.{window_bytes}
 use Rattle.x86_decode.proofs.LayoutLemmas.{read_so, read_none}
 use Rattle.x86_decode.proofs.positions.locate.Goals as goal
 
@@ -12,8 +12,8 @@ overflow_sub-len c =
     (window_bytes c.args.bytes.now c.window_of-window.result.now c.window_of-window.ensures
     (λ i. omega (arith, c.type_inv.bytes i))) c.in-Ok.ensures).0
 
-pub layout_of-requires : goal.layout_of-requires
-layout_of-requires c =
+pub part_places-requires : goal.part_places-requires
+part_places-requires c =
     let k = (read_so c.args.bytes.now c.window_of-window.result.now c.in-Ok.rest.now
     (c.in-Ok.insn, c.in-Ok.sizes.skip, c.in-Ok.sizes.disp, c.in-Ok.sizes.imm)
     c.window_of-window.ensures
@@ -35,8 +35,8 @@ returns-in-Ok c =
       format = k.format;
       long = k.long;
       parts = k.parts;
-      is = c.layout_of.ensures
-          ∙ ap (λ n. layout_of n c.in-Ok.insn c.in-Ok.sizes.disp c.in-Ok.sizes.imm) (sym k.size);
+      is = c.part_places.ensures
+          ∙ ap (λ n. part_places n c.in-Ok.insn c.in-Ok.sizes.disp c.in-Ok.sizes.imm) (sym k.size);
     }
 
 pub returns-in-Err : goal.returns-in-Err

@@ -1,6 +1,6 @@
 use Rattle.std.proofs.Common.{arith}
 use Rattle.erim_defs.specs.Encoding.Grammar.{InsnAndSizes}
-use Rattle.erim_defs.proofs.EncodingLemmas.{window_bytes, found_ok}
+use Rattle.encoding_laws.proofs.EncodingLemmas.{window_bytes, found_ok}
 use Rattle.x86_decode.proofs.LayoutLemmas.{read_so}
 use Rattle.x86_decode.proofs.MeasureLemmas.{stands, nothing_stands}
 use Rattle.x86_decode.proofs.positions.measure.Goals as goal

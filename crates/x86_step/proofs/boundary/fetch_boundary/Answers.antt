@@ -8,4 +8,4 @@ pub returns-clause-noted : goal.returns-clause-noted
 returns-clause-noted c = lemmas.noted_fetch_boundary
 
 pub returns-clause-whole : goal.returns-clause-whole
-returns-clause-whole c = lemmas.whole_fetch_boundary
+returns-clause-whole c = lemmas.whole_fetch_boundary c.whole_fetch.ensures

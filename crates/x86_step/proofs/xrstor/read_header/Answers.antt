@@ -16,7 +16,8 @@ loop-i-preserved g c =
       simp length-set n,
       got_more g.M.Memory c.loop-i.i (c.args.area + 512)
           ((c.args.area + (512 + 8 * c.loop-i.i)) % 2 ^ 64) _ c.loop-i.header c.args.thread.now
-          c.args.memory.now c.loop-i.memory c.load.new.memory (omega arith) (omega arith) (omega arith)
+          c.args.memory.now c.loop-i.memory c.load.new.memory (omega arith) (omega arith)
+          (omega arith)
           c.loop-i.invariant.1 c.in_ok-header.ensures.gets,
       omega arith,
     )

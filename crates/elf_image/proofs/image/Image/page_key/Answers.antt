@@ -1,5 +1,4 @@
 use Rattle.std.proofs.Common.{◌≡◌, ◌∙◌, ◌<◌, sym, subst}
-use Rattle.erim_defs.specs.Inspection.Image.{IsAccepted}
 use Rattle.erim_defs.specs.Machine.Start.{page_key}
 use Rattle.erim_defs.proofs.AcceptedLemmas.{page_key_few}
 use Rattle.elf_image.proofs.ImageLemmas.{key_in_heap, key_outside}

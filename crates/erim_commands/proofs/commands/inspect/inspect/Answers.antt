@@ -3,22 +3,23 @@ use Rattle.erim_commands.specs.Commands.{image_format}
 use Rattle.erim_defs.specs.Inspection.Unsafe.{image_list}
 use Rattle.erim_commands.specs.Delivery.{world}
 use Rattle.erim_commands.specs.Plans.{Plan, Tell}
-use Rattle.erim_commands.specs.Replies.{Answer, One, listed_reply}
-use Rattle.erim_commands.proofs.DeliveryLemmas.{file_next, made_one}
+use Rattle.erim_commands.specs.Replies.{Answer, One, list_reply}
+use Rattle.erim_commands.proofs.DeliveryLemmas.{file_next, reply_for_one}
 use Rattle.erim_commands.proofs.commands.inspect.inspect.Goals as goal
 
 -- what follows the image
 abbrev next : List ℕ → Plan Answer
-next bytes = Tell (One (listed_reply (image_list bytes)))
+next bytes = Tell (One (list_reply (image_list bytes)))
 
 pub returns-in-Ok : goal.returns-in-Ok
 returns-in-Ok g c =
     let old = world g.S.Store g.K.Sink c.args.store.now c.args.out.now in
     let mid = world g.S.Store g.K.Sink c.load_image.new.store c.load_image.new.out in
     let new = world g.S.Store g.K.Sink c.conclude.new.store c.conclude.new.out in
-    file_next image_format c.args.image.now next c.in-Ok.image old mid new c.conclude.result c.in-Ok.ensures
+    file_next image_format c.args.image.now next c.in-Ok.image old mid new c.conclude.result
+    c.in-Ok.ensures
     (c.conclude.ensures (next c.in-Ok.image)
-    (made_one (listed_reply (image_list c.in-Ok.image)) c.list_reply.result
+    (reply_for_one (list_reply (image_list c.in-Ok.image)) c.list_reply.result
     c.list_reply.ensures))
 
 pub returns-in-Err : goal.returns-in-Err

@@ -18,7 +18,7 @@ returns-in-Ok g c =
     let new = world g.S.Store g.K.Sink c.conclude.new.store c.conclude.new.out in
     file_next image_format c.args.image.now (next c.args.name.now) c.in-Ok.image old mid new
     c.conclude.result c.in-Ok.ensures
-    (c.conclude.ensures (next c.args.name.now c.in-Ok.image) c.rewrite_reply.ensures)
+    (c.conclude.ensures (next c.args.name.now c.in-Ok.image) c.rewriting_reply.ensures)
 
 pub returns-in-Err : goal.returns-in-Err
 returns-in-Err g c = c.in-Err.ensures (next c.args.name.now)

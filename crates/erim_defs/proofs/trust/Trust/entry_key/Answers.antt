@@ -1,7 +1,6 @@
-use Rattle.std.proofs.Common.{◌≡◌, ◌<◌, ◌∙◌, ◌+◌, ap, sym, refl, eqb, ℕ, get_or, List, length}
+use Rattle.std.proofs.Common.{◌≡◌, ◌<◌, ◌∙◌, ap, sym, refl, eqb, ℕ, get_or, List, length}
 use Rattle.std.proofs.Common.{subst, ne_eqb, ◌≢◌}
-use Rattle.erim_defs.specs.Inspection.Trust.{TrustValue, entry_key, spans}
-use Rattle.erim_defs.specs.declared.trust.Span.{Span}
+use Rattle.erim_defs.specs.Inspection.Trust.{TrustValue, entry_key}
 use Rattle.erim_defs.proofs.DomainLemmas.{beside_next}
 use Rattle.erim_defs.proofs.trust.Trust.entry_key.Goals as goal
 

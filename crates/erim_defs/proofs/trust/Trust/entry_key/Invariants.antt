@@ -1,5 +1,4 @@
 use Rattle.std.proofs.Common.{◌≡◌, drop, eqb}
-use Rattle.std.specs.Prelude.{◌==◌}
 use Rattle.erim_defs.specs.Inspection.Trust.{key_beside, entry_key}
 use Rattle.erim_defs.proofs.trust.Trust.entry_key.Given as goal
 

@@ -14,10 +14,10 @@ returns-clause-state g c = λ setup trust frames heaps.
     let r : Runner = record { number = c.args.t; thread = c.args.old.now } in
     c.answer.ensures.state setup trust frames heaps
     ∙ key_call g.P.Memory setup m c.pkey_alloc-outcome.new.keys c.pkey_alloc-outcome.new.pkru r t
-    c.pkey_alloc-outcome.result c.returned.result
+    c.pkey_alloc-outcome.result c.rax_of.result
     (pkey_alloc_result s t c.register-flags.result c.register-rights.result)
     (c.pkey_alloc-outcome.ensures.answer s t (record { taken = refl; rights = refl }))
-    c.pkey_alloc-outcome.ensures.keys c.pkey_alloc-outcome.ensures.pkru c.returned.ensures
+    c.pkey_alloc-outcome.ensures.keys c.pkey_alloc-outcome.ensures.pkru c.rax_of.ensures
     ∙ ap (λ (k : ℕ). after_call (pkey_alloc_result s t k c.register-rights.result) r t s)
     c.register-flags.ensures
     ∙ ap (λ (k : ℕ). after_call (pkey_alloc_result s t (register t 7) k) r t s)

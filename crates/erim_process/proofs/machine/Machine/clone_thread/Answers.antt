@@ -23,9 +23,9 @@ returns-clause-state g c = λ setup trust frames heaps.
     let stack = c.register-stack.result in
     c.answer.ensures.state setup trust frames heaps
     ∙ clone_call g.P.Memory setup m c.args.trust.now c.clone_thread-outcome.new.threads r t stack
-    c.clone_thread-outcome.result c.returned.result (clone_result s t flags stack)
+    c.clone_thread-outcome.result c.rax_of.result (clone_result s t flags stack)
     (c.clone_thread-outcome.ensures.answer s refl) c.clone_thread-outcome.ensures.threads
-    c.clone_thread-outcome.ensures.kept trust c.requires.there c.returned.ensures
+    c.clone_thread-outcome.ensures.kept trust c.requires.there c.rax_of.ensures
     ∙ ap (λ (k : ℕ). after_call (clone_result s t k stack) r t s) c.register-flags.ensures
     ∙ ap (λ (k : ℕ). after_call (clone_result s t (register t 7) k) r t s)
     c.register-stack.ensures

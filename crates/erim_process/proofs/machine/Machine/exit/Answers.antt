@@ -9,14 +9,14 @@ use Rattle.erim_process.proofs.machine.Machine.exit.Goals as goal
 pub returns-then-not-any_live-clause-state : goal.returns-then-not-any_live-clause-state
 returns-then-not-any_live-clause-state g c = λ setup trust frames heaps.
     ap (machine_state g.P.Memory setup) c.leave.ensures
-    ∙ last_call (register c.args.new.now 7 % 256) (machine_state g.P.Memory setup c.go.new.self) _
-    (c.go.ensures.state setup trust frames heaps)
+    ∙ last_call (register c.args.new.now 7 % 256) (machine_state g.P.Memory setup c.advance.new.self) _
+    (c.advance.ensures.state setup trust frames heaps)
     (ap (list_any (λ (t : Thread). t.live)) (sym c.list.ensures.list) ∙ sym c.any_live.ensures
     ∙ c.if-not-any_live.true)
 
 pub returns-else-not-any_live-clause-state : goal.returns-else-not-any_live-clause-state
 returns-else-not-any_live-clause-state g c = λ setup trust frames heaps.
-    other_call (register c.args.new.now 7 % 256) (machine_state g.P.Memory setup c.go.new.self) _
-    (c.go.ensures.state setup trust frames heaps)
+    other_call (register c.args.new.now 7 % 256) (machine_state g.P.Memory setup c.advance.new.self) _
+    (c.advance.ensures.state setup trust frames heaps)
     (ap (list_any (λ (t : Thread). t.live)) (sym c.list.ensures.list) ∙ sym c.any_live.ensures
     ∙ c.if-not-any_live.false)

@@ -9,4 +9,4 @@ pub returns-clause-state : goal.returns-clause-state
 returns-clause-state g c = λ setup trust frames heaps.
     ap (machine_state g.P.Memory setup) c.leave.ensures
     ∙ ap (with_end (Exit (register c.args.new.now 7 % 256)))
-    (c.go.ensures.state setup trust frames heaps)
+    (c.advance.ensures.state setup trust frames heaps)

@@ -13,7 +13,7 @@ returns-clause-state g c = λ setup trust frames heaps.
     let r : Runner = record { number = c.args.t; thread = c.args.old.now } in
     c.answer.ensures.state setup trust frames heaps
     ∙ key_call g.P.Memory setup m c.pkey_free-outcome.new.keys t.pkru r t c.pkey_free-outcome.result
-    c.returned.result (pkey_free_result s t c.register.result)
+    c.rax_of.result (pkey_free_result s t c.register.result)
     (c.pkey_free-outcome.ensures.answer s t (record { taken = refl; rights = refl }) trust)
-    c.pkey_free-outcome.ensures.keys (on_err c.pkey_free-outcome.result refl) c.returned.ensures
+    c.pkey_free-outcome.ensures.keys (on_err c.pkey_free-outcome.result refl) c.rax_of.ensures
     ∙ ap (λ (k : ℕ). after_call (pkey_free_result s t k) r t s) c.register.ensures

@@ -15,9 +15,9 @@ returns-clause-state g c = λ setup trust frames heaps.
     let w = c.write_out-outcome.ensures in
     c.answer.ensures.state setup trust (frames ∙ sym w.frames) heaps
     ∙ write_call g.P.Memory setup m c.write_out-outcome.new.pages c.write_out-outcome.new.output r t
-    c.write_out-outcome.result c.returned.result
+    c.write_out-outcome.result c.rax_of.result
     (write_result s t c.register-fd.result c.register-buf.result c.register-n.result)
-    (w.answer s t refl refl refl refl) w.kept (w.seen, w.bytes, w.frames) c.returned.ensures
+    (w.answer s t refl refl refl refl) w.kept (w.seen, w.bytes, w.frames) c.rax_of.ensures
     ∙ ap (λ (k : ℕ). after_call (write_result s t k c.register-buf.result c.register-n.result) r t
     s) c.register-fd.ensures
     ∙ ap (λ (k : ℕ). after_call (write_result s t (register t 7) k c.register-n.result) r t s)

@@ -1,6 +1,6 @@
 use Rattle.std.proofs.Common.{◌≤◌, subst}
 use Rattle.erim_defs.specs.Machine.Isolation.{IsIsolated}
-use Rattle.isolation.specs.Laws.{AreLawful}
+use Rattle.erim_defs.specs.Machine.Lawful.{AreLawful}
 use Rattle.erim_process.specs.ProcessValue.{ProcessValue}
 use Rattle.erim_process.specs.ProcessInvariant.{setup_of}
 use Rattle.erim_process.proofs.ProcessLemmas.{state_setup}
@@ -34,4 +34,4 @@ returns-clause-some_frames c =
 pub returns-clause-lawful : goal.returns-clause-lawful
 returns-clause-lawful c =
     subst (λ (v : ProcessValue). AreLawful v.setup) c.self.view_is
-    (c.lawful.ensures (setup_of c.self.inside.setup) c.self.invariant.startable)
+    (c.steps_are_lawful.ensures (setup_of c.self.inside.setup) c.self.invariant.startable)

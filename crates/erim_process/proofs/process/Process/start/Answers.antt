@@ -19,7 +19,7 @@ invariant_of-result c =
           let len = c.in_ok-journal.ensures.len in omega (arith, none, len));
       room = (let e = c.in_ok-journal.ensures.exact in omega (arith, e));
       within = (let none = c.in_ok-machine.ensures.fresh in omega (arith, none));
-      startable = c.startable.ensures setup c.in_ok-machine.ensures.accepted
+      startable = c.checked_is_startable.ensures setup c.in_ok-machine.ensures.accepted
           c.in_ok-machine.ensures.octets (start_trusted setup c.in_ok-check_start.ensures)
           (start_room setup c.in_ok-check_start.ensures);
       frames = c.in_ok-machine.ensures.frames;

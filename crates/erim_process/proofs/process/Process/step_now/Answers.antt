@@ -4,7 +4,7 @@ use Rattle.erim_defs.specs.Machine.Step.{step}
 use Rattle.erim_defs.specs.Machine.Isolation.{IsStartable}
 use Rattle.erim_process.specs.ProcessValue.{ProcessValue, state_of}
 use Rattle.erim_process.specs.ProcessInvariant.{setup_of}
-use Rattle.erim_process.specs.StepFacts.{answer}
+use Rattle.erim_defs.specs.Machine.StepAnswers.{step_answer}
 use Rattle.erim_process.proofs.ProcessLemmas.{state_seen, state_is, fields_run, safe_held, seen_run}
 use Rattle.erim_process.proofs.ProcessLemmas.{replay_goes, entries_pushed}
 use Rattle.erim_process.proofs.LiveLemmas.{step_live}
@@ -44,7 +44,7 @@ invariant_of-self c =
 
 pub returns-in-Made-clause-answer : goal.returns-in-Made-clause-answer
 returns-in-Made-clause-answer c = c.in-Made.ensures.answer (setup_of c.self.inside.setup) refl
-    ∙ sym (ap (λ (s : State). answer s c.args.thread)
+    ∙ sym (ap (λ (s : State). step_answer s c.args.thread)
     (state_seen _ c.self.inside _ c.self.view_is c.self.invariant))
 
 pub returns-in-Made-clause-state : goal.returns-in-Made-clause-state
@@ -92,7 +92,7 @@ returns-in-Made-clause-run c =
 
 pub returns-in-Ended-clause-answer : goal.returns-in-Ended-clause-answer
 returns-in-Ended-clause-answer c = c.in-Ended.ensures.answer (setup_of c.self.inside.setup) refl
-    ∙ sym (ap (λ (s : State). answer s c.args.thread)
+    ∙ sym (ap (λ (s : State). step_answer s c.args.thread)
     (state_seen _ c.self.inside _ c.self.view_is c.self.invariant))
 
 pub returns-in-Ended-clause-run : goal.returns-in-Ended-clause-run
@@ -102,7 +102,7 @@ returns-in-Ended-clause-run c =
 
 pub returns-in-Spent-clause-answer : goal.returns-in-Spent-clause-answer
 returns-in-Spent-clause-answer c = c.in-Spent.ensures.answer (setup_of c.self.inside.setup) refl
-    ∙ sym (ap (λ (s : State). answer s c.args.thread)
+    ∙ sym (ap (λ (s : State). step_answer s c.args.thread)
     (state_seen _ c.self.inside _ c.self.view_is c.self.invariant))
 
 pub returns-in-Spent-clause-run : goal.returns-in-Spent-clause-run
@@ -112,7 +112,7 @@ returns-in-Spent-clause-run c =
 
 pub returns-in-NotLive-clause-answer : goal.returns-in-NotLive-clause-answer
 returns-in-NotLive-clause-answer c = c.in-NotLive.ensures.answer (setup_of c.self.inside.setup) refl
-    ∙ sym (ap (λ (s : State). answer s c.args.thread)
+    ∙ sym (ap (λ (s : State). step_answer s c.args.thread)
     (state_seen _ c.self.inside _ c.self.view_is c.self.invariant))
 
 pub returns-in-NotLive-clause-run : goal.returns-in-NotLive-clause-run
@@ -130,7 +130,7 @@ returns-in-Made-clause-lawful c = λ made.
     let v = c.args.self.now in
     let startable : IsStartable v.setup =
     subst (λ (w : ProcessValue). IsStartable w.setup) c.self.view_is c.self.invariant.startable in
-    c.lawful.ensures v.setup startable v.journal (state_of v) _ c.args.thread
+    c.steps_are_lawful.ensures v.setup startable v.journal (state_of v) _ c.args.thread
     (seen_run _ c.self.inside _ c.self.view_is c.self.invariant)
     (returns-in-Made-clause-state c made)
 

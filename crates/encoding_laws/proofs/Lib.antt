@@ -1,0 +1,16 @@
+pub mod PartLemmas
+pub mod OperandLemmas
+pub mod LineLemmas
+pub mod OpcodeMapLemmas
+pub mod TailLemmas
+pub mod BodyLemmas
+pub mod StopLemmas
+pub mod BodyExact
+pub mod FrontLemmas
+pub mod EncodingLemmas
+pub mod DecodeLemmas
+pub mod FieldLemmas
+pub mod LengthLemmas
+pub mod CheckEncodings
+pub mod SequenceEncodings
+pub mod Exact

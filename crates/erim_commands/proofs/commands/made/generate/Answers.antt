@@ -1,9 +1,0 @@
-use Rattle.erim_commands.specs.Plans.{Tell}
-use Rattle.erim_commands.specs.Replies.{One, gen_reply}
-use Rattle.erim_commands.proofs.DeliveryLemmas.{made_one}
-use Rattle.erim_commands.proofs.commands.made.generate.Goals as goal
-
-pub returns : goal.returns
-returns g c =
-    let reply = gen_reply c.args.seed c.args.name.now in
-    c.conclude.ensures (Tell (One reply)) (made_one reply c.gen_reply.result c.gen_reply.ensures)

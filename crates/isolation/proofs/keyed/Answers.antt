@@ -1,6 +1,0 @@
--- The law is a lemma.
-use Rattle.isolation.proofs.StartLemmas as laws
-use Rattle.isolation.proofs.keyed.Goals as goal
-
-pub returns : goal.returns
-returns c = laws.keys_law

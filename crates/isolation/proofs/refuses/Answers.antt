@@ -1,6 +1,0 @@
--- The law is a lemma.
-use Rattle.isolation.proofs.PublishLemmas as laws
-use Rattle.isolation.proofs.refuses.Goals as goal
-
-pub returns : goal.returns
-returns c = laws.refuse_law

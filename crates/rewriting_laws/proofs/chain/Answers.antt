@@ -1,6 +1,0 @@
--- The law is a lemma.
-use Rattle.rewriting_laws.proofs.ChainLemmas as laws
-use Rattle.rewriting_laws.proofs.chain.Goals as goal
-
-pub returns : goal.returns
-returns c = laws.chain

@@ -1,6 +1,0 @@
--- The law is a lemma.
-use Rattle.rewriting_laws.proofs.QuietLemmas as laws
-use Rattle.rewriting_laws.proofs.quiet.Goals as goal
-
-pub returns : goal.returns
-returns c = laws.quiet

@@ -1,6 +1,0 @@
--- The law is a lemma.
-use Rattle.rewriting_laws.proofs.SafeLemmas as laws
-use Rattle.rewriting_laws.proofs.safe.Goals as goal
-
-pub returns : goal.returns
-returns c = laws.safe

@@ -1,6 +1,0 @@
--- The law is a lemma.
-use Rattle.rewriting_laws.proofs.UntouchedLemmas as laws
-use Rattle.rewriting_laws.proofs.untouched.Goals as goal
-
-pub returns : goal.returns
-returns c = laws.untouched_means
