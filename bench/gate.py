@@ -38,8 +38,10 @@ def main():
     used = {}
     while run.poll() is None:
         for key, words, seconds in processes(run.pid):
+            # a process that has ended has no words any more
             found = re.search(r"--crate-name (\w+)", words)
-            used[key] = (found.group(1) if found else "else", seconds)
+            before = used[key][0] if key in used else "else"
+            used[key] = (found.group(1) if found else before, seconds)
         time.sleep(1)
     crates = {}
     for crate, seconds in used.values():

@@ -1,7 +1,7 @@
 #!/bin/sh
 # Compares the lengths of instructions with those of binutils' objdump: random bytes go through `erim disasm`, and each
 # instruction that it reads, put by itself among NOPs, has to be as long for objdump; so has each canonical spelling that
-# the tests of erim_tests print. Skipped where objdump is missing. Prints how many were compared; ends with 1 at the first
+# `instruction_rows` prints. Skipped where objdump is missing. Prints how many were compared; ends with 1 at the first
 # disagreement.
 here=$(cd "$(dirname "$0")" && pwd) || exit 1
 if ! command -v objdump >/dev/null; then
@@ -20,7 +20,7 @@ for seed in 1 2 3; do
     objdump -D -b binary -m i386:x86-64 --insn-width=16 "$work/slots" >"$work/objdump" || exit 1
     python3 "$here/lengths.py" compare "$work/objdump" "$work/lengths" || exit 1
 done
-(cd "$here/../crates/erim_tests" && rt try --test) | sed -n 's/^ *spelling //p' >"$work/spellings"
+(cd "$here/../crates/instruction_rows" && rt try -- spellings) | sed -n 's/^.*spelling //p' >"$work/spellings"
 python3 "$here/lengths.py" spellings "$work/spellings" "$work/slots" "$work/lengths" || exit 1
 objdump -D -b binary -m i386:x86-64 --insn-width=16 "$work/slots" >"$work/objdump" || exit 1
 python3 "$here/lengths.py" compare "$work/objdump" "$work/lengths" || exit 1

@@ -1,8 +1,8 @@
-//! The commands of a row: what is called, and what is to come.
+//! A command of a row: what is called, and what is to come.
 
-use crate::fault::RowFault;
-use crate::words::word;
+use crate::held::Held;
 use std::alloc::Global;
+use test_rows::{RowFault, word};
 
 /// What a command is to print.
 #[derive(Drop)]
@@ -27,8 +27,8 @@ pub struct Call {
     pub text: Text,
     /// What the line of the end begins with, after `end `.
     pub end: Option<String>,
-    /// How many entries the saved journal has.
-    pub entries: Option<usize>,
+    /// What the store is to hold afterwards.
+    pub held: Vec<Held>,
 }
 
 /// What a command answered and printed.
@@ -47,7 +47,7 @@ impl Call {
             status: None,
             text: Text::Unsaid,
             end: None,
-            entries: None,
+            held: Vec::new(alloc),
         })
     }
 
@@ -57,33 +57,55 @@ impl Call {
         match name {
             "|" => self.push_whole(alloc, after_mark(line))?,
             "^" => self.push_begin(alloc, after_mark(line))?,
+            "$" => self.push_last(alloc, after_mark(line))?,
             "same" if rest.is_empty() && matches!(self.text, Text::Unsaid) => {
                 self.text = Text::Same;
             }
             "status" if self.status.is_none() => self.status = Some(status_of(rest)?),
             "ends" if self.end.is_none() => self.end = Some(String::from_str(alloc, rest)?),
-            "entries" if self.entries.is_none() => self.entries = Some(count_of(rest)?),
-            _ => return Ok(false),
+            _ => return self.push_held(alloc, name, rest),
         }
         Ok(true)
     }
 
+    /// Takes a line that says what the store is to hold, or answers that it is none.
+    fn push_held(&mut self, alloc: Global, name: &str, rest: &str) -> Result<bool, RowFault> {
+        match Held::of(alloc, name, rest)? {
+            Some(held) => {
+                self.held.push(held)?;
+                Ok(true)
+            }
+            None => Ok(false),
+        }
+    }
+
+    /// Takes a line of the whole text.
     fn push_whole(&mut self, alloc: Global, line: &str) -> Result<(), RowFault> {
+        self.push_last(alloc, line)?;
+        self.push_last(alloc, "\n")
+    }
+
+    /// Takes what the whole text ends with, without the end of a line.
+    fn push_last(&mut self, alloc: Global, text: &str) -> Result<(), RowFault> {
         if matches!(self.text, Text::Unsaid) {
             self.text = Text::Whole(String::new(alloc));
         }
         match &mut self.text {
-            Text::Whole(lines) => push_line(lines, line),
+            Text::Whole(lines) => Ok(lines.push_str(text)?),
             _ => Err(RowFault::Shape("both a whole text and another")),
         }
     }
 
-    fn push_begin(&mut self, alloc: Global, line: &str) -> Result<(), RowFault> {
+    /// Takes a line of those with which the text begins.
+    pub fn push_begin(&mut self, alloc: Global, line: &str) -> Result<(), RowFault> {
         if matches!(self.text, Text::Unsaid) {
             self.text = Text::Begins(String::new(alloc));
         }
         match &mut self.text {
-            Text::Begins(lines) => push_line(lines, line),
+            Text::Begins(lines) => {
+                lines.push_str(line)?;
+                Ok(lines.push('\n')?)
+            }
             _ => Err(RowFault::Shape("both a whole text and another")),
         }
     }
@@ -142,46 +164,37 @@ fn after_mark(line: &str) -> &str {
     rest
 }
 
-fn push_line(lines: &mut String, line: &str) -> Result<(), RowFault> {
-    lines.push_str(line)?;
-    Ok(lines.push('\n')?)
-}
-
 fn status_of(text: &str) -> Result<u8, RowFault> {
     text.parse::<u8>().map_err(|_| RowFault::Shape("no status"))
 }
 
-fn count_of(text: &str) -> Result<usize, RowFault> {
-    text.parse::<usize>()
-        .map_err(|_| RowFault::Shape("no number of entries"))
-}
-
-/// The words of a command. It is done on `image`, or on `out` where the second word says so; a run
-/// saves `journal` and a replay reads it, and a rewritten image is saved as `out`.
+/// The words of a command: those after `words`, or else the command's with its files. It is done on
+/// `image`, or on `out` where the second word says so; a run saves `journal` and a replay reads it,
+/// and a rewritten image is saved as `out`.
 fn words_of(alloc: Global, line: &str) -> Result<Vec<String>, RowFault> {
     let (command, rest) = word(line);
-    let second = match command {
-        "run" | "replay" => "journal",
-        "rewrite" => "out",
-        "inspect" | "disasm" => "",
-        _ => return Err(RowFault::Shape("no such command")),
-    };
-    let (image, options) = match word(rest) {
+    let (file, options) = match word(rest) {
         ("out", options) => ("out", options),
         _ => ("image", rest),
     };
-    let mut words = Vec::new(alloc);
-    push_words(alloc, &mut words, "erim")?;
-    push_words(alloc, &mut words, command)?;
-    push_words(alloc, &mut words, image)?;
-    push_words(alloc, &mut words, second)?;
-    push_words(alloc, &mut words, options)?;
-    Ok(words)
+    let text = match command {
+        "words" => format!(in alloc; "{rest}"),
+        "run" | "replay" => format!(in alloc; "erim {command} {file} journal {options}"),
+        "inspect" | "disasm" => format!(in alloc; "erim {command} {file} {options}"),
+        "rewrite" => format!(in alloc; "erim rewrite image out {rest}"),
+        "gen" => format!(in alloc; "erim gen {rest} image"),
+        "soak" => format!(in alloc; "erim soak {rest} journal"),
+        _ => return Err(RowFault::Shape("no such command")),
+    };
+    split_words(alloc, text?.as_str())
 }
 
-fn push_words(alloc: Global, words: &mut Vec<String>, text: &str) -> Result<(), RowFault> {
+/// The words of a text; `""` is an empty word.
+fn split_words(alloc: Global, text: &str) -> Result<Vec<String>, RowFault> {
+    let mut words = Vec::new(alloc);
     for word in text.split_whitespace() {
+        let word = if word == "\"\"" { "" } else { word };
         words.push(String::from_str(alloc, word)?)?;
     }
-    Ok(())
+    Ok(words)
 }

@@ -1,22 +1,18 @@
 //! Does the commands of a row, and says what isn't as the row says.
 
 use crate::call::{Answer, Call, Text};
-use crate::draft::Draft;
-use crate::fault::RowFault;
 use crate::row::Row;
 use erim_commands::erim_plain;
 use erim_io::{FileStore, LoadFault, MemSink, MemStore, Store};
 use std::alloc::Global;
 use std::rt::Files;
-
-/// How much a command may print: an output of the greatest size, and the report of it.
-const ROOM: u32 = 2_097_152;
+use test_rows::{RowFault, RowFile};
 
 /// How long a file may be.
 const FILE_LIMIT: u64 = 16_777_216;
 
-/// The bytes of a file.
-pub fn file_bytes<R: Files>(alloc: Global, rt: &R, name: &str) -> Result<Vec<u8>, RowFault> {
+/// The bytes of a file of this folder.
+fn stored_bytes<R: Files>(alloc: Global, rt: &R, name: &str) -> Result<Vec<u8>, RowFault> {
     let mut files = FileStore::new(alloc, rt);
     let mut bytes = Vec::new(alloc);
     match files.load(name, FILE_LIMIT, &mut bytes) {
@@ -26,29 +22,51 @@ pub fn file_bytes<R: Files>(alloc: Global, rt: &R, name: &str) -> Result<Vec<u8>
     }
 }
 
-/// The image of a row: its file, or else as it is laid.
-fn image_bytes<R: Files>(
+/// The bytes that a row's store holds under a name, if they can be loaded.
+pub fn loaded(
     alloc: Global,
-    rt: &R,
-    file: &Option<String>,
-    draft: Draft,
-) -> Result<Vec<u8>, RowFault> {
-    match file {
-        Some(name) => file_bytes(alloc, rt, name.as_str()),
-        None => draft.lay(alloc),
+    store: &mut MemStore,
+    name: &str,
+) -> Result<Option<Vec<u8>>, RowFault> {
+    let mut bytes = Vec::new(alloc);
+    match store.load(name, u64::MAX, &mut bytes) {
+        Ok(()) => Ok(Some(bytes)),
+        Err(LoadFault::Memory) => Err(RowFault::Memory),
+        Err(_) => Ok(None),
     }
 }
 
-/// A store that holds an image, under the name `image`.
-fn store_of(alloc: Global, image: Vec<u8>) -> Result<MemStore, RowFault> {
-    let name = String::from_str(alloc, "image")?;
+/// The image of a row: a file of this folder, or else as its lines give it.
+fn image_bytes<R: Files>(
+    alloc: Global,
+    rt: &R,
+    stored: &Option<String>,
+    file: RowFile,
+) -> Result<Vec<u8>, RowFault> {
+    match stored {
+        Some(name) => stored_bytes(alloc, rt, name.as_str()),
+        None => file.bytes(alloc),
+    }
+}
+
+/// A store that holds an image, under the name `image`, and a journal, if there is one, under the
+/// name `journal`.
+fn store_of(
+    alloc: Global,
+    image: Vec<u8>,
+    journal: Option<Vec<u8>>,
+    failing: Vec<u32>,
+) -> Result<MemStore, RowFault> {
     let mut files = Vec::new(alloc);
-    files.push((name, image))?;
-    Ok(MemStore::new(alloc, files, Vec::new(alloc)))
+    files.push((String::from_str(alloc, "image")?, image))?;
+    if let Some(journal) = journal {
+        files.push((String::from_str(alloc, "journal")?, journal))?;
+    }
+    Ok(MemStore::new(alloc, files, failing))
 }
 
 /// The text of bytes, in which those that aren't printed, and `\`, stand as `\` with two digits.
-fn printable(alloc: Global, bytes: &[u8]) -> Result<String, RowFault> {
+pub fn printable(alloc: Global, bytes: &[u8]) -> Result<String, RowFault> {
     let mut text = String::new(alloc);
     for byte in bytes {
         match *byte {
@@ -61,21 +79,15 @@ fn printable(alloc: Global, bytes: &[u8]) -> Result<String, RowFault> {
 }
 
 /// Calls the program.
-fn answer(alloc: Global, words: &[String], store: &mut MemStore) -> Result<Answer, RowFault> {
-    let mut out = MemSink::new(alloc, Vec::new(alloc), ROOM)?;
-    let status = erim_plain(alloc, words, store, &mut out);
+fn answer(
+    alloc: Global,
+    words: &[String],
+    store: &mut MemStore,
+    out: &mut MemSink,
+) -> Result<Answer, RowFault> {
+    let status = erim_plain(alloc, words, store, out);
     let text = printable(alloc, out.written())?;
     Ok(Answer { status, text })
-}
-
-/// Has the saved journal a given number of entries? None is saved where there are none.
-fn is_journal(alloc: Global, store: &mut MemStore, entries: usize) -> Result<bool, RowFault> {
-    let mut journal = Vec::new(alloc);
-    match store.load("journal", u64::MAX, &mut journal) {
-        Ok(()) => Ok(journal.len() == entries.saturating_mul(8).saturating_add(20)),
-        Err(LoadFault::Memory) => Err(RowFault::Memory),
-        Err(_) => Ok(entries == 0),
-    }
 }
 
 /// Says what was expected.
@@ -104,28 +116,41 @@ fn tell_difference(told: &mut String, call: &Call, came: &Answer) -> Result<(), 
     Ok(())
 }
 
+/// Says what the store doesn't hold as the row says.
+fn tell_held(
+    alloc: Global,
+    call: &Call,
+    store: &mut MemStore,
+    told: &mut String,
+) -> Result<(), RowFault> {
+    for (number, held) in call.held.iter().enumerate() {
+        if !held.is_met(alloc, store)? {
+            let line = call.line.as_str();
+            writeln!(told, "{line}: fact {number} of the store, from 0, isn't so")?;
+        }
+    }
+    Ok(())
+}
+
 /// Does a command, and answers what came.
 fn do_call(
     alloc: Global,
     call: &Call,
     store: &mut MemStore,
+    out: &mut MemSink,
     before: &Answer,
     told: &mut String,
 ) -> Result<Answer, RowFault> {
-    let came = answer(alloc, call.words.as_slice(), store)?;
+    let came = answer(alloc, call.words.as_slice(), store, out)?;
     if !call.is_met(&came, before) {
         tell_difference(told, call, &came)?;
     }
-    if let Some(entries) = call.entries {
-        if !is_journal(alloc, store, entries)? {
-            let line = call.line.as_str();
-            writeln!(told, "{line}: the journal hasn't {entries} entries")?;
-        }
-    }
+    tell_held(alloc, call, store, told)?;
     Ok(came)
 }
 
-/// Does the commands of a row, one after the other on the same files, and says what differs.
+/// Does the commands of a row, one after the other on the same files, each with an output of its
+/// own, and says what differs.
 pub fn do_row<R: Files>(
     alloc: Global,
     rt: &R,
@@ -133,19 +158,25 @@ pub fn do_row<R: Files>(
     told: &mut String,
 ) -> Result<(), RowFault> {
     let Row {
-        name: _name,
-        draft,
         file,
+        stored,
+        journal,
+        failing,
+        failing_puts,
+        room,
         calls,
+        ..
     } = row;
-    let image = image_bytes(alloc, rt, &file, draft)?;
-    let mut store = store_of(alloc, image)?;
+    let image = image_bytes(alloc, rt, &stored, file)?;
+    let mut store = store_of(alloc, image, journal, failing)?;
     let mut before = Answer {
         status: 0,
         text: String::new(alloc),
     };
     for call in &calls {
-        before = do_call(alloc, call, &mut store, &before, told)?;
+        let failing = Vec::from_slice(alloc, &failing_puts)?;
+        let mut out = MemSink::new(alloc, failing, room)?;
+        before = do_call(alloc, call, &mut store, &mut out, &before, told)?;
     }
     Ok(())
 }

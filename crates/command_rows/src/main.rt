@@ -7,13 +7,12 @@
 //! written, and `args` names the files.
 #![tactic(auto)]
 
+mod answers;
 mod call;
 mod doing;
-mod draft;
-mod fault;
+mod held;
 mod row;
 mod sheet;
-mod words;
 
 use crate::sheet::check_sheet;
 use anyhow::{Context, Result};

@@ -1,18 +1,31 @@
-//! A row: an image, and commands on it with what is to come.
+//! A row: files, and commands on them with what is to come.
 
+use crate::answers::table_of;
 use crate::call::Call;
-use crate::draft::Draft;
-use crate::fault::RowFault;
-use crate::words::word;
+use crate::doing::printable;
 use std::alloc::Global;
+use test_rows::{RowFault, RowFile, bytes_of, decimal, push_bytes, word};
+
+/// How much a command may print where a row doesn't say: an output of the greatest size, and the
+/// report of it.
+const ROOM: u32 = 2_097_152;
 
 /// A row as its lines give it.
 #[derive(Drop)]
 pub struct Row {
     pub name: String,
-    pub draft: Draft,
-    /// The file that holds the image, where the lines don't lay it.
-    pub file: Option<String>,
+    pub file: RowFile,
+    /// The file of this folder that holds the image, where the lines don't give it.
+    pub stored: Option<String>,
+    /// The journal that is there from the start.
+    pub journal: Option<Vec<u8>>,
+    /// Which calls on the store fail, and which puts.
+    pub failing: Vec<u32>,
+    pub failing_puts: Vec<u32>,
+    /// How much a command may print.
+    pub room: u32,
+    /// What the calls of the table are to answer.
+    answers: Vec<u8>,
     pub calls: Vec<Call>,
 }
 
@@ -21,8 +34,13 @@ impl Row {
     pub fn new(alloc: Global) -> Row {
         Row {
             name: String::new(alloc),
-            draft: Draft::new(alloc),
-            file: None,
+            file: RowFile::new(alloc),
+            stored: None,
+            journal: None,
+            failing: Vec::new(alloc),
+            failing_puts: Vec::new(alloc),
+            room: ROOM,
+            answers: Vec::new(alloc),
             calls: Vec::new(alloc),
         }
     }
@@ -33,33 +51,63 @@ impl Row {
         match name {
             "row" if self.name.is_empty() => Ok(self.name.push_str(rest)?),
             _ if self.name.is_empty() => Err(RowFault::Shape("no name before")),
-            "image" if self.file.is_none() => {
-                self.file = Some(String::from_str(alloc, rest)?);
-                Ok(())
-            }
             "also" if !self.calls.is_empty() => self.push_call(alloc, rest),
-            _ if self.calls.is_empty() => self.take_first(alloc, name, rest, line),
+            _ if self.calls.is_empty() => self.take_first(alloc, line),
+            "answers" => self.expect_answers(alloc),
             _ => self.take_expected(alloc, name, line),
         }
     }
 
-    /// Takes a line of the image, or the first command.
-    fn take_first(
-        &mut self,
-        alloc: Global,
-        name: &str,
-        rest: &str,
-        line: &str,
-    ) -> Result<(), RowFault> {
-        if self.draft.take(alloc, name, rest)? {
-            return Ok(());
+    /// Takes a line of the files, of what fails, or the first command.
+    fn take_first(&mut self, alloc: Global, line: &str) -> Result<(), RowFault> {
+        let (name, rest) = word(line);
+        match name {
+            "image" => self.stored = Some(String::from_str(alloc, rest)?),
+            "journal" => self.push_journal(alloc, rest)?,
+            "fails" => push_numbers(&mut self.failing, rest)?,
+            "puts" => push_numbers(&mut self.failing_puts, rest)?,
+            "room" => self.room = decimal(rest).unwrap_or(0),
+            "call" => self.push_table(alloc, rest)?,
+            _ => {
+                if !self.file.take(alloc, name, rest)? {
+                    self.push_call(alloc, line)?;
+                }
+            }
         }
-        self.push_call(alloc, line)
+        Ok(())
+    }
+
+    /// Goes on with the journal.
+    fn push_journal(&mut self, alloc: Global, rest: &str) -> Result<(), RowFault> {
+        match &mut self.journal {
+            Some(journal) => push_bytes(alloc, journal, rest),
+            None => {
+                self.journal = Some(bytes_of(alloc, rest)?);
+                Ok(())
+            }
+        }
+    }
+
+    /// Goes on with the table of calls at the end of the last segment.
+    fn push_table(&mut self, alloc: Global, calls: &str) -> Result<(), RowFault> {
+        let table = table_of(alloc, calls, &mut self.answers)?;
+        self.file.draft.extend_last(&table)
     }
 
     fn push_call(&mut self, alloc: Global, line: &str) -> Result<(), RowFault> {
         let call = Call::new(alloc, line)?;
         Ok(self.calls.push(call)?)
+    }
+
+    /// The last command is to print the answers of the table first.
+    fn expect_answers(&mut self, alloc: Global) -> Result<(), RowFault> {
+        let count = self.answers.len();
+        let text = printable(alloc, &self.answers)?;
+        let lines = format!(in alloc; "output {count}\n{}", text.as_str())?;
+        match self.calls.last_mut() {
+            Some(call) => call.push_begin(alloc, lines.as_str()),
+            None => Ok(()),
+        }
     }
 
     /// Takes a line that says what comes of the last command.
@@ -83,7 +131,7 @@ impl Row {
         if self.calls.is_empty() {
             return Some("no command");
         }
-        if self.file.is_some() == self.draft.has_parts() {
+        if self.stored.is_some() != self.file.is_empty() {
             return Some("no image, or two");
         }
         if !self.calls.iter().all(|call| call.is_complete()) {
@@ -91,4 +139,15 @@ impl Row {
         }
         None
     }
+}
+
+/// Appends the decimal numbers of a text.
+fn push_numbers(numbers: &mut Vec<u32>, text: &str) -> Result<(), RowFault> {
+    for word in text.split_whitespace() {
+        match decimal(word) {
+            Some(number) => numbers.push(number)?,
+            None => return Err(RowFault::Shape("no number")),
+        }
+    }
+    Ok(())
 }

@@ -24,5 +24,4 @@ mod text;
 mod top_call;
 
 pub use reply::{NOT_UNDERSTOOD, OUT_OF_MEMORY};
-pub use text::fault_line;
 pub use top_call::erim_plain;
