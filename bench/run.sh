@@ -1,11 +1,11 @@
 #!/bin/sh
-# Times `erim run` on three loops without end, each of which makes all the 1,000,000 steps of a run:
-# xor eax, eax; je back. images/crc.img, which is programs/crc.c by gcc -O2 with 1,000,000 rounds. A
-# loop that reads and writes another page of a megabyte each time. Then on images that end: 500 pages
-# that are jumped through, each of which is published. 10,000 rounds of mapping a page, writing it and
-# unmapping it, with 1,000 pages mapped. 10,000 rounds of writing a page and executing it. The first
-# loop by 16 threads in turn. And images/heap.img, which is programs/heap.c: 1,500 blocks of the
-# trusted heap taken and given back, up to 1,000 at a time.
+# Times `erim run` by one worker on three loops without end, each of which makes all the 1,000,000
+# steps of a run: xor eax, eax; je back. images/crc.img, which is programs/crc.c by gcc -O2 with
+# 1,000,000 rounds. A loop that reads and writes another page of a megabyte each time. Then on
+# images that end: 500 pages that are jumped through, each of which is published. 10,000 rounds of
+# mapping a page, writing it and unmapping it, with 1,000 pages mapped. 10,000 rounds of writing a
+# page and executing it. The first loop by 16 threads in turn. And images/heap.img, which is programs/heap.c:
+# 1,500 blocks of the trusted heap taken and given back, up to 1,000 at a time.
 # Prints the steps, the seconds, the greatest memory in KiB and the bytes of the journal; and the
 # steps a second that Unicorn makes of the same loops, where its library is installed.
 here=$(cd "$(dirname "$0")" && pwd) || exit 1
@@ -41,7 +41,8 @@ else
 fi
 for image in loop crc memory pages mapping writing threads heap; do
     for round in 1 2 3; do
-        /usr/bin/time -f '%e %M' -o "$work/time" "$here/../erim" run "$work/$image" "$work/journal" >"$work/out"
+        /usr/bin/time -f '%e %M' -o "$work/time" \
+            "$here/../erim" run "$work/$image" "$work/journal" --workers 1 >"$work/out"
         printf '%s: %s: %s seconds/KiB, %s bytes saved\n' "$image" "$(grep steps "$work/out" | head -n 1)" \
             "$(tail -n 1 "$work/time")" "$(wc -c <"$work/journal")"
     done

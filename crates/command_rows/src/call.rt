@@ -170,7 +170,8 @@ fn status_of(text: &str) -> Result<u8, RowFault> {
 
 /// The words of a command: those after `words`, or else the command's with its files. It is done on
 /// `image`, or on `out` where the second word says so; a run saves `journal` and a replay reads it,
-/// and a rewritten image is saved as `out`.
+/// and a rewritten image is saved as `out`. A run is by one worker, if the options say no other
+/// number.
 fn words_of(alloc: Global, line: &str) -> Result<Vec<String>, RowFault> {
     let (command, rest) = word(line);
     let (file, options) = match word(rest) {
@@ -179,6 +180,9 @@ fn words_of(alloc: Global, line: &str) -> Result<Vec<String>, RowFault> {
     };
     let text = match command {
         "words" => format!(in alloc; "{rest}"),
+        "run" if !options.contains("--workers") => {
+            format!(in alloc; "erim run {file} journal --workers 1 {options}")
+        }
         "run" | "replay" => format!(in alloc; "erim {command} {file} journal {options}"),
         "inspect" | "disasm" => format!(in alloc; "erim {command} {file} {options}"),
         "rewrite" => format!(in alloc; "erim rewrite image out {rest}"),

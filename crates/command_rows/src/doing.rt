@@ -2,11 +2,14 @@
 
 use crate::call::{Answer, Call, Text};
 use crate::row::Row;
-use erim_commands::erim_plain;
+use erim_commands::erim;
 use erim_io::{FileStore, LoadFault, MemSink, MemStore, Store};
 use std::alloc::Global;
 use std::rt::Files;
+use std::sync::Wait;
+use std::thread::Threads;
 use test_rows::{RowFault, RowFile};
+use thread_runner::NoGate;
 
 /// How long a file may be.
 const FILE_LIMIT: u64 = 16_777_216;
@@ -79,13 +82,14 @@ pub fn printable(alloc: Global, bytes: &[u8]) -> Result<String, RowFault> {
 }
 
 /// Calls the program.
-fn answer(
+fn answer<R: Threads + Wait + Sync>(
     alloc: Global,
+    rt: &R,
     words: &[String],
     store: &mut MemStore,
     out: &mut MemSink,
 ) -> Result<Answer, RowFault> {
-    let status = erim_plain(alloc, words, store, out);
+    let status = erim(rt, alloc, words, store, out, &NoGate);
     let text = printable(alloc, out.written())?;
     Ok(Answer { status, text })
 }
@@ -133,15 +137,16 @@ fn tell_held(
 }
 
 /// Does a command, and answers what came.
-fn do_call(
+fn do_call<R: Threads + Wait + Sync>(
     alloc: Global,
+    rt: &R,
     call: &Call,
     store: &mut MemStore,
     out: &mut MemSink,
     before: &Answer,
     told: &mut String,
 ) -> Result<Answer, RowFault> {
-    let came = answer(alloc, call.words.as_slice(), store, out)?;
+    let came = answer(alloc, rt, call.words.as_slice(), store, out)?;
     if !call.is_met(&came, before) {
         tell_difference(told, call, &came)?;
     }
@@ -151,7 +156,7 @@ fn do_call(
 
 /// Does the commands of a row, one after the other on the same files, each with an output of its
 /// own, and says what differs.
-pub fn do_row<R: Files>(
+pub fn do_row<R: Files + Threads + Wait + Sync>(
     alloc: Global,
     rt: &R,
     row: Row,
@@ -176,7 +181,7 @@ pub fn do_row<R: Files>(
     for call in &calls {
         let failing = Vec::from_slice(alloc, &failing_puts)?;
         let mut out = MemSink::new(alloc, failing, room)?;
-        before = do_call(alloc, call, &mut store, &mut out, &before, told)?;
+        before = do_call(alloc, rt, call, &mut store, &mut out, &before, told)?;
     }
     Ok(())
 }

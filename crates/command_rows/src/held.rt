@@ -1,7 +1,9 @@
 //! What the store of a row is to hold after a command.
 
 use crate::doing::loaded;
+use erim_defs::JournalFault;
 use erim_io::{MemStore, Store};
+use journal_bytes::read_journal;
 use std::alloc::Global;
 use test_rows::{RowFault, bytes_of, decimal, number, word};
 
@@ -10,6 +12,8 @@ use test_rows::{RowFault, bytes_of, decimal, number, word};
 pub enum Held {
     /// The saved journal has a given number of entries; with none there is no journal.
     Entries(usize),
+    /// Each entry of the saved journal is of a worker from 1 to a given number.
+    Workers(u32),
     /// `out` has these bytes from a place on.
     Bytes { place: usize, bytes: Vec<u8> },
     /// There is no `out`.
@@ -26,6 +30,10 @@ impl Held {
                 Some(entries) => Ok(Some(Held::Entries(entries as usize))),
                 None => Err(RowFault::Shape("no number of entries")),
             },
+            "workers" => match decimal(rest) {
+                Some(workers) => Ok(Some(Held::Workers(workers))),
+                None => Err(RowFault::Shape("no number of workers")),
+            },
             "holds" => Ok(Some(bytes_at(alloc, rest)?)),
             "unsaved" if rest.is_empty() => Ok(Some(Held::NoOut)),
             "failures" => failures(rest),
@@ -39,6 +47,10 @@ impl Held {
             Held::Entries(entries) => match loaded(alloc, store, "journal")? {
                 Some(journal) => Ok(*entries > 0 && journal.len() == entries_length(*entries)),
                 None => Ok(*entries == 0),
+            },
+            Held::Workers(workers) => match loaded(alloc, store, "journal")? {
+                Some(journal) => are_of_workers(alloc, &journal, *workers),
+                None => Ok(false),
             },
             Held::Bytes { place, bytes } => match loaded(alloc, store, "out")? {
                 Some(out) => Ok(has_bytes(&out, *place, bytes)),
@@ -55,6 +67,18 @@ impl Held {
 /// How long a journal with a given number of entries is.
 fn entries_length(entries: usize) -> usize {
     entries.saturating_mul(8).saturating_add(20)
+}
+
+/// Is each entry of a journal of a worker from 1 to this number?
+fn are_of_workers(alloc: Global, journal: &[u8], workers: u32) -> Result<bool, RowFault> {
+    match read_journal(alloc, journal) {
+        Ok(journal) => Ok(
+            journal.entries.iter().all(|entry| entry.worker > 0
+                && u32::from(entry.worker) <= workers),
+        ),
+        Err(JournalFault::Memory) => Err(RowFault::Memory),
+        Err(_) => Ok(false),
+    }
 }
 
 /// Has a file these bytes from a place on?

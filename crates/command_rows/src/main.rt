@@ -18,10 +18,14 @@ use crate::sheet::check_sheet;
 use anyhow::{Context, Result};
 use std::process::ExitCode;
 use std::rt::{Env, Files};
+use std::sync::Wait;
+use std::thread::Threads;
 use std::{env, fs};
 
 /// Does the rows of each file that a word names. Answers whether there is a file and all are right.
-fn check_files<R: Files + Env + Print + AllocGlobal>(rt: &R) -> Result<bool> {
+fn check_files<R: Files + Env + Print + Threads + Wait + Sync + AllocGlobal>(
+    rt: &R,
+) -> Result<bool> {
     let mut count = 0u32;
     let mut is_right = true;
     for name in env::args(rt)?.skip(1) {

@@ -5,6 +5,8 @@ use crate::row::Row;
 use anyhow::Result;
 use std::alloc::Global;
 use std::rt::Files;
+use std::sync::Wait;
+use std::thread::Threads;
 use test_rows::{RowFault, word};
 
 /// Is there no row in a stretch of lines? Comments begin with `#`.
@@ -40,7 +42,7 @@ fn read_row(
 }
 
 /// Reads a row and does it, and answers its name.
-fn try_row<R: Files>(
+fn try_row<R: Files + Threads + Wait + Sync>(
     alloc: Global,
     rt: &R,
     stretch: &str,
@@ -122,7 +124,7 @@ struct Count {
 }
 
 /// Does a row, and prints it if it isn't as it says.
-fn check_row<R: Files + Print + AllocGlobal>(
+fn check_row<R: Files + Print + Threads + Wait + Sync + AllocGlobal>(
     rt: &R,
     file: &str,
     lines: &str,
@@ -140,7 +142,7 @@ fn check_row<R: Files + Print + AllocGlobal>(
 }
 
 /// Does a row, or the rows of a table, whose cells follow its lines after `= `.
-fn check_stretch<R: Files + Print + AllocGlobal>(
+fn check_stretch<R: Files + Print + Threads + Wait + Sync + AllocGlobal>(
     rt: &R,
     file: &str,
     stretch: &str,
@@ -158,7 +160,11 @@ fn check_stretch<R: Files + Print + AllocGlobal>(
 
 /// Does the rows of a file, prints each that isn't as it says, and how many there are. Answers
 /// whether all are right and there are some.
-pub fn check_sheet<R: Files + Print + AllocGlobal>(rt: &R, file: &str, text: &str) -> Result<bool> {
+pub fn check_sheet<R: Files + Print + Threads + Wait + Sync + AllocGlobal>(
+    rt: &R,
+    file: &str,
+    text: &str,
+) -> Result<bool> {
     let alloc = rt.alloc();
     let mut names = Vec::new(alloc);
     let mut count = Count { rows: 0, wrong: 0 };

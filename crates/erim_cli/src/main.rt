@@ -2,17 +2,18 @@
 //! emulated machine.
 //!
 //! `main` gives the program's words, the system's files and standard output to
-//! `erim_commands::erim_plain`, which does all that the program does. Where the words mean no
-//! command, it also writes a usage to standard error.
+//! `erim_commands::erim`, which does all that the program does, in several threads where the words
+//! say so. Where the words mean no command, it also writes a usage to standard error.
 #![tactic(auto)]
 
 use command_words::USAGE;
-use erim_commands::{NOT_UNDERSTOOD, OUT_OF_MEMORY, erim_plain};
+use erim_commands::{NOT_UNDERSTOOD, OUT_OF_MEMORY, erim};
 use erim_defs::NoMemory;
 use erim_io::{FileStore, OutSink};
 use std::env;
 use std::io::ErrorKind;
 use std::process::ExitCode;
+use thread_runner::NoGate;
 
 /// The program's words, or none where one isn't text.
 fn given_words(rt: &HostRuntime) -> Result<Vec<String>, NoMemory> {
@@ -29,7 +30,14 @@ fn main(rt: HostRuntime) -> ExitCode {
     };
     let mut store = FileStore::new(rt.alloc(), &rt);
     let mut out = OutSink::new(&rt);
-    let status = erim_plain(rt.alloc(), words.as_slice(), &mut store, &mut out);
+    let status = erim(
+        &rt,
+        rt.alloc(),
+        words.as_slice(),
+        &mut store,
+        &mut out,
+        &NoGate,
+    );
     if status == NOT_UNDERSTOOD {
         // The answer is written already, so a usage that can't be written is no failure.
         let _ = eprint!(rt; "{USAGE}");

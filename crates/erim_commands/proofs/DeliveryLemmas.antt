@@ -277,13 +277,14 @@ journal_faulty fault first next (Ok m) (inr found) replies = rw found replies.1
 -- ---- the replies of runs
 
 -- a run's reply, for the setup
-pub reply_for_run : (text_of : List Entry → State → List ℕ) (journal : Name) (given setup : Setup)
-    (r : Result CodeReply NoMemory) → given ≡ setup
-    → IfOk r (λ m. IsRunReply text_of journal given (reply_of m))
-    → IsReplyFor (Tell (Ran text_of journal setup)) r
-reply_for_run text_of journal given setup (Ok m) same is =
-    let P : Setup → Type 0 = λ s. IsRunReply text_of journal s (reply_of m) in subst P same is
-reply_for_run text_of journal given setup (Err e) same is = tt
+pub reply_for_run : (text_of : List Entry → State → List ℕ) (journal : Name) (workers : ℕ)
+    (given setup : Setup) (r : Result CodeReply NoMemory) → given ≡ setup
+    → IfOk r (λ m. IsRunReply text_of journal workers given (reply_of m))
+    → IsReplyFor (Tell (Ran text_of journal workers setup)) r
+reply_for_run text_of journal workers given setup (Ok m) same is =
+    let P : Setup → Type 0 = λ s. IsRunReply text_of journal workers s (reply_of m) in
+    subst P same is
+reply_for_run text_of journal workers given setup (Err e) same is = tt
 
 -- and that of a replay
 pub reply_for_replay : (given setup : Setup) (entries : List Entry) (r : Result CodeReply NoMemory)

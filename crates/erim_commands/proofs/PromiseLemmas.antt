@@ -10,6 +10,7 @@ use Rattle.erim_defs.specs.declared.machine.End.{End}
 use Rattle.erim_defs.specs.declared.machine.End.TheVariants.{Exit, Fault, Refused}
 use Rattle.erim_defs.specs.declared.machine.Entry.{Entry}
 use Rattle.erim_defs.specs.declared.limits.TheConstants.{USUAL_FRAMES, USUAL_STEPS}
+use Rattle.erim_defs.specs.declared.limits.TheConstants.{USUAL_WORKERS}
 use Rattle.erim_defs.specs.Inspection.Unsafe.{image_list}
 use Rattle.erim_defs.specs.Machine.State.{Setup, State}
 use Rattle.erim_defs.specs.Output.Journal.{JournalValue, journal_of}
@@ -47,8 +48,9 @@ use Rattle.erim_commands.specs.Promises.{reading_refusal, refusal, IsAbout, IsRe
 use Rattle.erim_commands.specs.Promises.{ShowsRun, ShowsReplay, ShowsRewritten}
 use Rattle.erim_commands.specs.Promises.{TellsWork, IsLoadedBy, IsSavedBy}
 use Rattle.erim_commands.specs.Promises.{Does, GainsLoad, GainsSave, CountsPut, TellsFault}
-use Rattle.erim_commands.specs.Promises.{IsComplete}
-use Rattle.erim_commands.proofs.PlanLemmas.{tells_end, Always, always_replied, Failure}
+use Rattle.erim_commands.specs.Promises.{IsComplete, Promises}
+use Rattle.erim_commands.proofs.PlanLemmas.{tells_end, tells_faultless, tells_memory}
+use Rattle.erim_commands.proofs.PlanLemmas.{Always, always_replied, Failure}
 use Rattle.erim_commands.proofs.PlanLemmas.{always_failed, LoadsBytes, loads_bytes}
 use Rattle.erim_commands.proofs.EndLemmas.{IsRead, Stops, file_end, unless_end, some_is}
 use Rattle.erim_commands.proofs.EndLemmas.{file_bytes}
@@ -120,9 +122,9 @@ end_not_2 (Some (Fault thread rip cause addr)) = omega arith
 end_not_2 (Some (Refused page found thread)) = omega arith
 
 ran_own : (command : Command) (text_of : List Entry → State → List ℕ) (journal : Name)
-    (setup : Setup) → IsSavedBy (Some command) journal
-    → AnswersOwn (Some command) (Ran text_of journal setup)
-ran_own command text_of journal setup saves reply is =
+    (workers : ℕ) (setup : Setup) → IsSavedBy (Some command) journal
+    → AnswersOwn (Some command) (Ran text_of journal workers setup)
+ran_own command text_of journal workers setup saves reply is =
     rw is.answer (record {
       understood = known command (code_of (end_status is.last.end)) (end_not_2 is.last.end);
       save = saves;
@@ -223,7 +225,7 @@ plan_own (Some (Run image journal workers steps frames)) =
     let command = Run image journal workers steps frames in
     image_own command image _ refl
     (λ bytes. started_own command (run_setup bytes steps frames) _
-    (ran_own command report journal (run_setup bytes steps frames) refl))
+    (ran_own command report journal workers (run_setup bytes steps frames) refl))
 plan_own (Some (Replay image journal)) =
     let command = Replay image journal in
     image_own command image _ (inl refl) (λ bytes. replay_own command journal bytes (inr refl))
@@ -231,7 +233,8 @@ plan_own (Some (Rewrite image out)) =
     image_own (Rewrite image out) image _ refl (λ bytes. rewrite_own image out (rewriting bytes))
 plan_own (Some (Gen seed out)) = one_own (Gen seed out) (gen_reply seed out) (omega arith) refl
 plan_own (Some (Soak seed journal)) =
-    ran_own (Soak seed journal) (λ entries s. soak_line seed s) journal (soak_setup seed) refl
+    ran_own (Soak seed journal) (λ entries s. soak_line seed s) journal USUAL_WORKERS
+    (soak_setup seed) refl
 
 pub tells_words : (words : Option Command) (old new : World) (status : ℕ)
     → Carries IsAnswer (plan_for words) old new status → TellsWords words status
@@ -273,7 +276,7 @@ IsWorkEnd (Run image journal workers steps frames) files a =
     (bytes : List ℕ) × (files image ≡ Some bytes)
     × (reading_refusal image_format bytes ≡ None)
     × (start_refusal (run_setup bytes steps frames) ≡ None)
-    × (a ≡ Ran report journal (run_setup bytes steps frames))
+    × (a ≡ Ran report journal workers (run_setup bytes steps frames))
 IsWorkEnd (Replay image journal) files a =
     (bytes saved : List ℕ) × (files image ≡ Some bytes) × (files journal ≡ Some saved)
     × (reading_refusal image_format bytes ≡ None)
@@ -284,7 +287,7 @@ IsWorkEnd (Rewrite image out) files a =
     × ((r : Rewritten) × (rewriting bytes ≡ Ok r) × (a ≡ One (rewrite_reply out r)))
 IsWorkEnd (Gen seed out) files a = a ≡ One (gen_reply seed out)
 IsWorkEnd (Soak seed journal) files a =
-    a ≡ Ran (λ entries s. soak_line seed s) journal (soak_setup seed)
+    a ≡ Ran (λ entries s. soak_line seed s) journal USUAL_WORKERS (soak_setup seed)
 
 -- a cause was said, or the command's work
 abbrev IsEnd : Command → Files → Answer → Type 0
@@ -319,12 +322,12 @@ plan_end (Run image journal workers steps frames) files a end =
     by (file_end image_format image next files a end)
   where
     next : List ℕ → Plan Answer
-    next bytes = started_run report journal (run_setup bytes steps frames)
+    next bytes = started_run report journal workers (run_setup bytes steps frames)
 
     started : (bytes : List ℕ) → files image ≡ Some bytes
         → reading_refusal image_format bytes ≡ None
         → Stops (start_refusal (run_setup bytes steps frames)) (refusal_answer ImageRefused)
-        (Tell (Ran report journal (run_setup bytes steps frames))) files a
+        (Tell (Ran report journal workers (run_setup bytes steps frames))) files a
         → IsEnd (Run image journal workers steps frames) files a
     started bytes there fine (inl (text, bad, is)) =
         inl (ImageRefused, text, inl refl, rw (there, fine, bad) refl, is)
@@ -476,7 +479,7 @@ work_done (Disasm image) files a old new status (bytes, there, is) replied =
     (inl refl)
 work_done (Run image journal workers steps frames) files a old new status
     (bytes, there, fine, can, is) replied =
-    let ran : IsAnswer (Ran report journal (run_setup bytes steps frames)) replied.reply =
+    let ran : IsAnswer (Ran report journal workers (run_setup bytes steps frames)) replied.reply =
     rw is at replied.answer in
     done_by _ replied.reply status replied.code ran.answer (end_done ran.last.end)
 work_done (Replay image journal) files a old new status
@@ -491,7 +494,7 @@ work_done (Gen seed out) files a old new status is replied =
     done_by _ replied.reply status replied.code (one_reply a _ replied.reply is replied.answer)
     (inl refl)
 work_done (Soak seed journal) files a old new status is replied =
-    let ran : IsAnswer (Ran (λ entries s. soak_line seed s) journal (soak_setup seed))
+    let ran : IsAnswer (Ran (λ entries s. soak_line seed s) journal USUAL_WORKERS (soak_setup seed))
     replied.reply = rw is at replied.answer in
     done_by _ replied.reply status replied.code ran.answer (end_done ran.last.end)
 
@@ -587,14 +590,16 @@ pub record Laws : Type 0 where
 
 -- a run that was answered
 shown_run : Laws → (text_of : List Entry → State → List ℕ) (journal : Name)
-    (bytes : List ℕ) (steps frames : ℕ) (a : Answer) (old new : World) (status : ℕ)
+    (bytes : List ℕ) (workers steps frames : ℕ) (a : Answer) (old new : World) (status : ℕ)
     → reading_refusal image_format bytes ≡ None
     → start_refusal (run_setup bytes steps frames) ≡ None
-    → a ≡ Ran text_of journal (run_setup bytes steps frames) → IsReplied IsAnswer a old new status
-    → ShowsRun text_of journal (run_setup bytes steps frames) old new status
-shown_run laws text_of journal bytes steps frames a old new status fine can is replied =
+    → a ≡ Ran text_of journal workers (run_setup bytes steps frames)
+    → IsReplied IsAnswer a old new status
+    → ShowsRun text_of journal workers (run_setup bytes steps frames) old new status
+shown_run laws text_of journal bytes workers steps frames a old new status fine can is replied =
     let setup = run_setup bytes steps frames in
-    let ran : IsAnswer (Ran text_of journal setup) replied.reply = rw is at replied.answer in
+    let ran : IsAnswer (Ran text_of journal workers setup) replied.reply =
+    rw is at replied.answer in
     let whole : IsAnswered (run_reply text_of journal setup ran.entries ran.last) old new =
     rw ran.answer at replied.whole in
     let code : status ≡ code_of (end_status ran.last.end) =
@@ -607,7 +612,8 @@ shown_run laws text_of journal bytes steps frames a old new status fine can is r
       text = whole.text;
       answer = code;
       spent = spent_status ran.last.end status code;
-      again = replays_run laws.replaying bytes steps frames ran.entries ran.last fine can ran.own;
+      again = replays_run laws.replaying bytes workers steps frames ran.entries ran.last fine can
+          ran.own;
     }
 
 -- a reply that was delivered whole shows what the command found
@@ -637,7 +643,7 @@ shown (Run image journal workers steps frames) files a old new status laws loads
     (bytes, there, fine, can, is) replied = (
       bytes,
       there,
-      shown_run laws report journal bytes steps frames a old new status fine can is replied,
+      shown_run laws report journal bytes workers steps frames a old new status fine can is replied,
     )
 shown (Replay image journal) files a old new status laws loads
     (bytes, saved, there, here, fine, spelled, is) replied =
@@ -685,8 +691,8 @@ shown (Gen seed out) files a old new status laws loads is replied =
       text = whole.text;
     }
 shown (Soak seed journal) files a old new status laws loads is replied =
-    shown_run laws (λ entries s. soak_line seed s) journal _ USUAL_STEPS USUAL_FRAMES a old new
-    status (seed_accepted seed laws.generated_length laws.generated_accepted)
+    shown_run laws (λ entries s. soak_line seed s) journal _ USUAL_WORKERS USUAL_STEPS
+    USUAL_FRAMES a old new status (seed_accepted seed laws.generated_length laws.generated_accepted)
     (seed_starts seed laws.generated_startable) is replied
 
 pub tells_work : (words : Option Command) (old new : World) (status : ℕ) → Laws
@@ -739,3 +745,21 @@ tells_complete words old new status laws carries command files about clean =
     no_fault (inl load) = longer load.0 _ _ load.2 clean.loads
     no_fault (inr (inl save)) = longer save.0 _ _ save.2 clean.saves
     no_fault (inr (inr put)) = clean.puts put.2
+
+-- ---- all of it
+
+pub promises : (words : Option Command) (old new : World) (status : ℕ) → Laws
+    → Carries IsAnswer (plan_for words) old new status → Promises words old new status
+promises words old new status laws carries = record {
+  ends = carries;
+  end = tells_end IsAnswer (plan_for words) old new status carries;
+  words = tells_words words old new status carries;
+  image = tells_refusal ImageRefused words old new status (inl refl) carries;
+  journal = tells_refusal JournalRefused words old new status (inr (inl refl)) carries;
+  rewriting = tells_refusal RewriteRefused words old new status (inr (inr refl)) carries;
+  work = tells_work words old new status laws carries;
+  fault = tells_fault words old new status carries;
+  faultless = tells_faultless IsAnswer (plan_for words) old new status carries;
+  memory = tells_memory IsAnswer (plan_for words) old new status carries;
+  complete = tells_complete words old new status laws carries;
+}

@@ -101,14 +101,15 @@ can_start setup none = by (start_fault setup) none
     by (Some fault) none = absurd cc
 
 -- what a run of its own leads to is said again by the replay of its journal
-pub replays_run : UnbrokenLaw → (bytes : List ℕ) (steps frames : ℕ) (entries : List Entry)
-    (last : State) → reading_refusal image_format bytes ≡ None
+pub replays_run : UnbrokenLaw → (bytes : List ℕ) (workers steps frames : ℕ)
+    (entries : List Entry) (last : State) → reading_refusal image_format bytes ≡ None
     → start_refusal (run_setup bytes steps frames) ≡ None
-    → IsOwnRun (run_setup bytes steps frames) entries last
+    → IsOwnRun workers (run_setup bytes steps frames) entries last
     → ReplaysTo bytes (journal_text (run_journal (run_setup bytes steps frames) entries))
     (replay_reply entries last)
 unfolding end_of
-replays_run law bytes steps frames entries last fine can own image journal files there here =
+replays_run law bytes workers steps frames entries last fine can own image journal files there
+    here =
     let setup = run_setup bytes steps frames in
     let j = run_journal setup entries in
     let saved = journal_text j in

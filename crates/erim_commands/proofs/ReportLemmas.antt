@@ -9,15 +9,17 @@ use Rattle.erim_commands.specs.Replies.{IsRunReply, IsOwnRun, end_status, run_jo
 
 -- a reply of a text, the journal and the status of a run
 pub run_replied : (text_of : List Entry → State → List ℕ) (setup : Setup) (journal : Name)
-    (entries : List Entry) (last : State) (status : Status) (text bytes : List ℕ)
-    → IsOwnRun setup entries last → status ≡ end_status last.end → text ≡ text_of entries last
+    (workers : ℕ) (entries : List Entry) (last : State) (status : Status) (text bytes : List ℕ)
+    → IsOwnRun workers setup entries last → status ≡ end_status last.end
+    → text ≡ text_of entries last
     → bytes ≡ journal_text (run_journal setup entries)
-    → IsRunReply text_of journal setup (record {
+    → IsRunReply text_of journal workers setup (record {
       status = status;
       text = text;
       save = Some (record { name = journal; bytes = bytes });
     })
-run_replied text_of setup journal entries last status text bytes own status_is text_is bytes_is =
+run_replied text_of setup journal workers entries last status text bytes own status_is text_is
+    bytes_is =
     record {
       entries = entries;
       last = last;

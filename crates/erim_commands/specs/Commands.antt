@@ -2,7 +2,7 @@
 use Rattle.std.specs.Prelude.{ℕ, Option, Some, None, List, Result, Ok, Err, codes}
 use Rattle.erim_io.specs.Store.{Name}
 use Rattle.erim_defs.specs.declared.limits.TheConstants.{MOST_IMAGE_BYTES, MOST_JOURNAL_BYTES}
-use Rattle.erim_defs.specs.declared.limits.TheConstants.{USUAL_FRAMES, USUAL_STEPS}
+use Rattle.erim_defs.specs.declared.limits.TheConstants.{USUAL_FRAMES, USUAL_STEPS, USUAL_WORKERS}
 use Rattle.erim_defs.specs.declared.machine.Entry.{Entry}
 use Rattle.erim_defs.specs.Inspection.Unsafe.{image_list}
 use Rattle.erim_defs.specs.Machine.State.{Setup, State}
@@ -71,9 +71,10 @@ with_file format name next =
 abbrev pub with_start : Setup → Plan Answer → Plan Answer
 with_start setup next = unless (start_refusal setup) (refusal_answer ImageRefused) next
 
--- starts it and runs it
-abbrev pub started_run : (List Entry → State → List ℕ) → Name → Setup → Plan Answer
-started_run text_of journal setup = with_start setup (Tell (Ran text_of journal setup))
+-- starts it and runs it by so many workers
+abbrev pub started_run : (List Entry → State → List ℕ) → Name → ℕ → Setup → Plan Answer
+started_run text_of journal workers setup =
+    with_start setup (Tell (Ran text_of journal workers setup))
 
 abbrev pub break_answer : ReplayFault → Answer
 break_answer fault = refusal_answer (break_status fault) (break_text fault)
@@ -101,7 +102,6 @@ replay_setup bytes j = run_setup bytes j.budget j.frames
 abbrev pub soak_setup : ℕ → Setup
 soak_setup seed = run_setup (seed_image seed) USUAL_STEPS USUAL_FRAMES
 
--- the workers have no effect: each run is made by one, of number 0
 abbrev pub plan_of : Command → Plan Answer
 plan_of (Inspect image) =
     with_file image_format image (λ bytes. Tell (One (list_reply (image_list bytes))))
@@ -109,7 +109,7 @@ plan_of (Disasm image) =
     with_file image_format image (λ bytes. Tell (One (disasm_reply bytes)))
 plan_of (Run image journal workers steps frames) =
     with_file image_format image
-    (λ bytes. started_run report journal (run_setup bytes steps frames))
+    (λ bytes. started_run report journal workers (run_setup bytes steps frames))
 plan_of (Replay image journal) =
     with_file image_format image
     (λ bytes. with_file journal_format journal
@@ -117,10 +117,17 @@ plan_of (Replay image journal) =
 plan_of (Rewrite image out) =
     with_file image_format image (λ bytes. rewrite_plan out (rewriting bytes))
 plan_of (Gen seed out) = Tell (One (gen_reply seed out))
-plan_of (Soak seed journal) = Tell (Ran (λ entries s. soak_line seed s) journal (soak_setup seed))
+plan_of (Soak seed journal) =
+    Tell (Ran (λ entries s. soak_line seed s) journal USUAL_WORKERS (soak_setup seed))
 
 abbrev pub not_understood : Answer
 not_understood = One (line_reply NotUnderstood (codes "words not understood"))
+
+-- what the words mean to a program without threads: a command that runs nothing by workers
+abbrev pub plain : Option Command → Option Command
+plain (Some (Run image journal workers steps frames)) = None
+plain (Some (Soak seed journal)) = None
+plain other = other
 
 -- the plan of what the words mean
 abbrev pub plan_for : Option Command → Plan Answer

@@ -5,6 +5,7 @@ use Rattle.std.specs.Option.{option_map}
 use Rattle.std.specs.Io.KnownBytes.{Appends}
 use Rattle.erim_io.specs.Store.{Name, Files, holding}
 use Rattle.erim_io.specs.Sink.{HasRisen}
+use Rattle.erim_defs.specs.declared.limits.TheConstants.{USUAL_WORKERS}
 use Rattle.erim_defs.specs.declared.machine.Entry.{Entry}
 use Rattle.erim_defs.specs.Encoding.Disasm.{disasm_text}
 use Rattle.erim_defs.specs.Inspection.Code.{or_else}
@@ -22,15 +23,16 @@ use Rattle.erim_defs.specs.Rewriting.Rewriting.{Fault, Rewritten, rewriting}
 use Rattle.erim_defs.specs.Machine.ReplayFaults.{replay_fault}
 use Rattle.erim_commands.specs.declared.reply.Status.{Status}
 use Rattle.erim_commands.specs.declared.reply.Status.TheVariants.{ImageRefused, JournalRefused}
+use Rattle.erim_commands.specs.declared.reply.Status.TheVariants.{RewriteRefused}
 use Rattle.erim_commands.specs.Statuses.{code_of}
 use Rattle.erim_commands.specs.Replies.{Answer, IsAnswer, Reply, line_reply, start_refusal}
 use Rattle.erim_commands.specs.Replies.{break_status, break_text, list_status, end_status}
 use Rattle.erim_commands.specs.Replies.{run_journal, IsWholeRun, IsOwnRun, replay_reply}
 use Rattle.erim_commands.specs.Replies.{rewrite_status}
 use Rattle.erim_commands.specs.Plans.{Plan, end_of}
-use Rattle.erim_commands.specs.Commands.{Format, image_format, journal_format, plan_of, run_setup}
-use Rattle.erim_commands.specs.Commands.{replay_setup, soak_setup}
-use Rattle.erim_commands.specs.Delivery.{World, IsAnswered, IsUntouched}
+use Rattle.erim_commands.specs.Commands.{Format, image_format, journal_format, plan_for, plan_of}
+use Rattle.erim_commands.specs.Commands.{replay_setup, run_setup, soak_setup}
+use Rattle.erim_commands.specs.Delivery.{World, Carries, IsAnswered, IsUntouched}
 
 -- ---- of each plan
 
@@ -167,11 +169,11 @@ ReplaysTo bytes saved reply =
 -- the journal of a run from the setup was saved under its name, and nothing else; a text of the run
 -- was added to what was written; the status is that of its end, and 7 where it has none. To replay
 -- what was saved prints the report of this run, with this status.
-pub record ShowsRun (text_of : List Entry → State → List ℕ) (journal : Name) (setup : Setup)
-    (old new : World) (status : ℕ) : Type 0 where
+pub record ShowsRun (text_of : List Entry → State → List ℕ) (journal : Name) (workers : ℕ)
+    (setup : Setup) (old new : World) (status : ℕ) : Type 0 where
   pub entries : List Entry
   pub last : State
-  pub own : IsOwnRun setup entries last
+  pub own : IsOwnRun workers setup entries last
   pub saved : new.held ≡ holding journal (journal_text (run_journal setup entries)) old.held
   pub text : Appends old.written new.written (text_of entries last)
   pub answer : status ≡ code_of (end_status last.end)
@@ -219,7 +221,7 @@ Shows (Disasm image) files old new status =
 Shows (Run image journal workers steps frames) files old new status =
     (bytes : List ℕ)
     × (files image ≡ Some bytes)
-    × ShowsRun report journal (run_setup bytes steps frames) old new status
+    × ShowsRun report journal workers (run_setup bytes steps frames) old new status
 Shows (Replay image journal) files old new status =
     (bytes saved : List ℕ)
     × (files image ≡ Some bytes)
@@ -229,7 +231,7 @@ Shows (Rewrite image out) files old new status =
     (bytes : List ℕ) × (files image ≡ Some bytes) × ShowsRewritten bytes out old new status
 Shows (Gen seed out) files old new status = ShowsImage seed out old new status
 Shows (Soak seed journal) files old new status =
-    ShowsRun (λ entries s. soak_line seed s) journal (soak_setup seed) old new status
+    ShowsRun (λ entries s. soak_line seed s) journal USUAL_WORKERS (soak_setup seed) old new status
 
 -- a command that isn't refused shows what it found
 abbrev pub TellsWork : Option Command → World → World → ℕ → Type 0
@@ -302,3 +304,37 @@ abbrev pub IsComplete : Option Command → World → World → ℕ → Type 0
 IsComplete words old new status =
     (command : Command) (files : Files) → IsAbout words command old files → IsClean old new
     → (status ≡ 5) ⊎ Does (refusal command files) command files old new status
+
+-- ---- all of it
+
+-- what a call promises of the command that its words mean
+pub record Promises (command : Option Command) (old new : World) (status : ℕ) : Type 0 where
+  -- the command's plan was carried out
+  pub ends : Carries IsAnswer (plan_for command) old new status
+  -- over files that the store says, an answer but 4 and 5 is that of the plan's end, whose reply
+  -- was delivered whole
+  pub end : TellsEnd IsAnswer (plan_for command) old new status
+  -- 2 exactly where the words mean no command
+  pub words : TellsWords command status
+  -- 3 exactly where the image is above 8 MiB, has a fault, or is to be run and can't start
+  pub image : TellsRefusal ImageRefused command old status
+  -- 6 exactly where the journal is too large, isn't one, or its steps can't all be made to an end
+  pub journal : TellsRefusal JournalRefused command old status
+  -- 8 exactly where a sequence of the image can't be rewritten, or there is no room for it
+  pub rewriting : TellsRefusal RewriteRefused command old status
+  -- else: `inspect` said the unsafe list of the image code; `disasm` said its instructions; `run`
+  -- saved the journal of a whole run of the machine and said the report of its replay, which is
+  -- what `replay` says of that journal; `rewrite` saved the rewritten image, which is accepted, and
+  -- of which nothing is unsafe; `gen` saved the generated image; `soak` did as `run` and said its
+  -- line
+  pub work : TellsWork command old new status
+  -- 4 only where a name that the command loads joined the failed loads and none the failed saves,
+  -- one that it saves joined the failed saves and none the failed loads, or the sink's count rose
+  -- and neither list grew
+  pub fault : TellsFault command old new status
+  -- and always then: at another answer the lists and the count are as before
+  pub faultless : TellsFaultless old new status
+  -- at 5 nothing is written and nothing saved
+  pub memory : TellsMemory old new status
+  -- without a fault the refusal or the work is said, unless memory runs out
+  pub complete : IsComplete command old new status

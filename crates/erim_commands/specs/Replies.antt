@@ -29,8 +29,8 @@ use Rattle.erim_defs.specs.declared.replay_fault.ReplayFault.{ReplayFault}
 use Rattle.erim_defs.specs.declared.replay_fault.ReplayFault.TheVariants.{Start, PastEnd}
 use Rattle.erim_defs.specs.declared.replay_fault.ReplayFault.TheVariants.{PastBudget, NotLive}
 use Rattle.erim_defs.specs.declared.replay_fault.ReplayFault.TheVariants.{Unfinished}
-use Rattle.erim_defs.specs.Machine.Replay.{AreAlone}
 use Rattle.erim_defs.specs.Machine.Lawful.{AreLawful}
+use Rattle.thread_runner.specs.Running.{AreWithin}
 use Rattle.erim_commands.specs.declared.reply.Status.{Status}
 use Rattle.erim_commands.specs.declared.reply.Status.TheVariants.{Done, AtFault, Spent}
 use Rattle.erim_commands.specs.declared.reply.Status.TheVariants.{ImageRefused, JournalRefused}
@@ -138,11 +138,12 @@ run_journal setup entries =
     record { budget = setup.budget; frames = setup.frames; entries = entries }
 
 -- a whole run whose schedule the program chose: its entries are a journal's, and name no worker
--- but 0
-pub record IsOwnRun (setup : Setup) (entries : List Entry) (last : State) : Type 0 where
+-- above the number of workers
+pub record IsOwnRun (workers : ℕ) (setup : Setup) (entries : List Entry) (last : State)
+    : Type 0 where
   pub whole : IsWholeRun setup entries last
   pub form : IsJournal (run_journal setup entries)
-  pub alone : AreAlone entries
+  pub within : AreWithin workers entries
 
 -- ---- run and soak
 
@@ -154,12 +155,12 @@ run_reply text_of journal setup entries last = record {
   save = Some (record { name = journal; bytes = journal_text (run_journal setup entries) });
 }
 
--- the reply to some run, whichever schedule was taken
-pub record IsRunReply (text_of : List Entry → State → List ℕ) (journal : Name) (setup : Setup)
-    (reply : Reply) : Type 0 where
+-- the reply to some run by so many workers, whichever schedule was taken
+pub record IsRunReply (text_of : List Entry → State → List ℕ) (journal : Name) (workers : ℕ)
+    (setup : Setup) (reply : Reply) : Type 0 where
   pub entries : List Entry
   pub last : State
-  pub own : IsOwnRun setup entries last
+  pub own : IsOwnRun workers setup entries last
   pub answer : reply ≡ run_reply text_of journal setup entries last
 
 -- ---- replay
@@ -199,10 +200,11 @@ gen_reply seed out = record {
 -- is said of it, or that of a replay
 pub data Answer : Type 0 where
   One : Reply → Answer
-  Ran : (text_of : List Entry → State → List ℕ) (journal : Name) (setup : Setup) → Answer
+  Ran : (text_of : List Entry → State → List ℕ) (journal : Name) (workers : ℕ) (setup : Setup)
+      → Answer
   Replayed : (setup : Setup) (entries : List Entry) → Answer
 
 abbrev pub IsAnswer : Answer → Reply → Type 0
 IsAnswer (One reply) r = r ≡ reply
-IsAnswer (Ran text_of journal setup) r = IsRunReply text_of journal setup r
+IsAnswer (Ran text_of journal workers setup) r = IsRunReply text_of journal workers setup r
 IsAnswer (Replayed setup entries) r = IsReplayReply setup entries r

@@ -1,13 +1,14 @@
 //! Delivers replies: saves their files and puts their texts.
 
-ghost use Rattle.std.specs.Prelude.{◌≡◌};
+ghost use Rattle.std.specs.Prelude.{◌≡◌, codes};
+ghost use Rattle.erim_defs.specs.Output.Texts.{error_line};
 ghost use Rattle.erim_commands.specs.CallParts.{IsReplyFor, Puts, SavesHeld, noted_file, reply_of};
 ghost use Rattle.erim_commands.specs.CallParts.{save_of};
 ghost use Rattle.erim_commands.specs.Delivery.{Carries, Delivers, world};
 ghost use Rattle.erim_commands.specs.Plans.{Plan};
 ghost use Rattle.erim_commands.specs.Replies.{Answer, IsAnswer};
 
-use crate::reply::{FAILED, OUT_OF_MEMORY, Reply, Save, code_of};
+use crate::reply::{FAILED, OUT_OF_MEMORY, Reply, Save, Status, code_of};
 use erim_defs::NoMemory;
 use erim_io::{SaveFault, Sink, Store, put_all};
 
@@ -20,6 +21,19 @@ pub fn put<K: Sink>(out: &mut K, status: u8, text: &[u8]) -> u8
         Ok(()) => status,
         Err(_failed) => FAILED,
     }
+}
+
+/// Says that the words mean no command.
+pub fn not_understood<K: Sink>(out: &mut K) -> u8
+    ensures { let old = K.written out.old in
+        Puts 2 (error_line (codes "words not understood")) old (K.written out.new)
+        (K.faults out.old) (K.faults out.new) result }
+{
+    put(
+        out,
+        code_of(Status::NotUnderstood),
+        b"erim: words not understood\n",
+    )
 }
 
 /// Saves the file, where there is one.

@@ -1,8 +1,9 @@
-//! The commands of `erim`, and the top call `erim_plain` that does what the program's words say.
+//! The commands of `erim`, and the top call `erim` that does what the program's words say.
 //!
-//! The program gives its words, a store of files and an output to `erim_plain`, which does all that
-//! the program does; tests call it over files and output in memory. Each command has a plan of what
-//! it loads and what it answers (`specs/Commands.antt`), and `erim_plain` ensures that the plan of
+//! The program gives its words, a store of files, an output and a gate to `erim`, which does all
+//! that the program does; tests call it over files and output in memory. `run` and `soak` do their
+//! work in several threads; `erim_plain` has all the others and needs none. Each command has a plan
+//! of what it loads and what it answers (`specs/Commands.antt`), and both ensure that the plan of
 //! the words' command was carried out, and what each status says of files and output
 //! (`specs/Promises.antt`). A reply's file is saved before its text is put (`specs/Delivery.antt`).
 //! What `rewrite` saves is accepted and has nothing unsafe, which `rewriting_laws` says of every
@@ -24,4 +25,4 @@ mod text;
 mod top_call;
 
 pub use reply::{NOT_UNDERSTOOD, OUT_OF_MEMORY};
-pub use top_call::erim_plain;
+pub use top_call::{erim, erim_plain};

@@ -5,7 +5,7 @@ ghost use Rattle.erim_defs.specs.declared.machine.Entry.{Entry};
 ghost use Rattle.erim_defs.specs.Machine.Replay.{IsOver};
 ghost use Rattle.erim_defs.specs.Machine.State.{State};
 ghost use Rattle.erim_process.specs.ProcessValue.{state_of};
-ghost use Rattle.erim_defs.specs.Machine.Replay.{AreAlone};
+ghost use Rattle.thread_runner.specs.Running.{AreWithin};
 ghost use Rattle.erim_commands.specs.declared.reply.Status.TheVariants.{ImageRefused};
 ghost use Rattle.erim_commands.specs.CallParts.{reply_of};
 ghost use Rattle.erim_commands.specs.Replies.{IsRunReply, end_status, start_text, line_reply};
@@ -40,19 +40,20 @@ pub fn start_refusal_reply<'a>(alloc: Global, fault: &StartFault) -> Result<Repl
     }
 }
 
-/// The reply of a process that has run: its text, and its journal, which is to be saved under the
-/// name.
+/// The reply of a process that so many workers have run: its text, and its journal, which is to be
+/// saved under the name.
 pub fn run_reply<'a>(
     alloc: Global,
     process: &Process,
     journal: &'a str,
+    workers: u8,
     text: Vec<u8>,
 ) -> Result<Reply<'a>, NoMemory>
     requires over { IsOver (state_of process.now) }
-    requires alone { AreAlone process.now.journal }
+    requires within { AreWithin workers process.now.journal }
     ensures { IfOk result (λ reply. (text_of : List Entry → State → List ℕ)
         → text.items ≡ text_of process.now.journal (state_of process.now)
-        → IsRunReply text_of journal.now process.now.setup (reply_of reply)) }
+        → IsRunReply text_of journal.now workers process.now.setup (reply_of reply)) }
 {
     let setup = process.setup();
     let bytes = write_journal(alloc, process.journal(), setup.budget, setup.frames)?;

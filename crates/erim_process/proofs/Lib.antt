@@ -8,3 +8,4 @@ pub mod RefusedLemmas
 pub mod ProcessLemmas
 pub mod StartLemmas
 pub mod MoveLemmas
+pub mod RunningLemmas

@@ -10,10 +10,12 @@
 
 mod answers;
 mod calls;
+mod crossing;
 mod fetch;
 mod heap_calls;
 mod image_pages;
 mod key_calls;
+mod live;
 mod machine;
 mod origin;
 mod page_calls;
@@ -23,6 +25,7 @@ mod start;
 mod step;
 mod thread_calls;
 
+pub use crossing::{may_be_sent, may_be_shared, processes_cross};
 pub use erim_defs::{StartFault, Stepped};
 pub use process::Process;
 pub use setup::Setup;

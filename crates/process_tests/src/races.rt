@@ -1,10 +1,11 @@
 //! Threads that race with calls on the page of another's check, step by step and in every order.
 
-use crate::laying::setup;
+use elf_image::read_image;
 use erim_defs::{End, Found, SeqKind};
-use erim_process::{Process, Stepped};
+use erim_process::{Process, Setup, Stepped};
 use std::alloc::Global;
 use std::process::Abort;
+use test_rows::image_bytes;
 
 /// Two threads: the first makes the second, which goes through a gate in outside trusted text, with
 /// the check after it, on the page at 0x403000. The first calls on that page meanwhile.
@@ -40,7 +41,12 @@ const CLOSING: &str = "B854555555";
 /// The process of an image of these lines, with few steps and pages. It has the setup of which a
 /// copy was made before.
 fn started(rt: &impl Abort, alloc: Global, lines: &str) -> Process {
-    let setup = setup(rt, alloc, lines, 64);
+    let bytes = image_bytes(alloc, lines).ok().expect(rt, lines);
+    let setup = Setup {
+        image: read_image(alloc, &bytes).ok().expect(rt, lines),
+        budget: 64,
+        frames: 64,
+    };
     let copy = setup.copy().expect(rt, lines);
     let process = Process::start(alloc, setup).ok().expect(rt, lines);
     assert!(rt; process.same_setup(&copy), "{lines}");

@@ -4,7 +4,7 @@
 use crate::draft::Draft;
 use crate::fault::RowFault;
 use crate::fields::put_fields;
-use crate::words::{fill_to, number, one_number, push_bytes};
+use crate::words::{fill_to, number, one_number, push_bytes, word};
 use std::alloc::Global;
 
 /// A file as the lines of a row give it.
@@ -80,4 +80,16 @@ fn whole_file(alloc: Global, rest: &str) -> Result<Vec<u8>, RowFault> {
     push_bytes(alloc, &mut bytes, rest)?;
     fill_to(&mut bytes, Some(length))?;
     Ok(bytes)
+}
+
+/// The bytes of the image that lines lay out, as the lines of a row do.
+pub fn image_bytes(alloc: Global, lines: &str) -> Result<Vec<u8>, RowFault> {
+    let mut file = RowFile::new(alloc);
+    for line in lines.lines() {
+        let (name, rest) = word(line);
+        if !file.take(alloc, name, rest)? {
+            return Err(RowFault::Shape("no line of an image"));
+        }
+    }
+    file.bytes(alloc)
 }

@@ -1,5 +1,5 @@
 //! Rows of worked examples as lines of text, for the crates of rows and tests: what `command_rows`,
-//! `instruction_rows`, `word_rows` and `process_tests` read.
+//! `instruction_rows`, `word_rows`, `process_tests`, `runner_tests` and `rewriting_tests` read.
 //!
 //! `words` reads numbers and bytes, `file` the file that the lines of a row give: its bytes, or an
 //! image to be laid out (`draft`), with other values of some fields (`fields`). Nothing here ends
@@ -14,5 +14,5 @@ mod words;
 
 pub use draft::Draft;
 pub use fault::RowFault;
-pub use file::RowFile;
+pub use file::{RowFile, image_bytes};
 pub use words::{bytes_of, decimal, number, one_number, push_bytes, word};

@@ -1,10 +1,10 @@
 -- A replay's steps: each is made, or is the first that can't be; and what all of them come to.
 use Rattle.std.proofs.Common.{◌≡◌, ℕ, ◌+◌, ◌-◌, ◌<◌, ◌≤◌, ◌⊎◌, zero, suc, Bool, true, false}
-use Rattle.std.proofs.Common.{Option, Some, None, List, [], ◌∷◌, ◌++◌, eqb, take, is_some}
+use Rattle.std.proofs.Common.{Option, Some, None, List, [], ◌∷◌, ◌++◌, take, is_some}
 use Rattle.std.proofs.Common.{refl, sym, if◌then◌else◌, append_assoc, replicate, length, get_or}
 use Rattle.std.proofs.Common.{◌∙◌, ap, subst, arith, inl, inr}
 use Rattle.std.proofs.lemmas.Bool.{cases_lt, le-leb, lt-leb, lt-ltb, le-ltb, or_cases, or_left}
-use Rattle.std.proofs.lemmas.Bool.{or_right, eq-eqb, eqb-true, ne_eqb}
+use Rattle.std.proofs.lemmas.Bool.{or_right, eq-eqb, eqb-true}
 use Rattle.std.proofs.lemmas.List.{append-nil}
 use Rattle.std.specs.Prelude.{slice_get, option_map}
 use Rattle.erim_defs.specs.declared.machine.End.{End}
@@ -28,7 +28,6 @@ use Rattle.erim_defs.specs.declared.replay_fault.ReplayFault.{ReplayFault}
 use Rattle.erim_defs.specs.declared.replay_fault.ReplayFault.TheVariants.{Start, PastEnd}
 use Rattle.erim_defs.specs.declared.replay_fault.ReplayFault.TheVariants.{PastBudget}
 use Rattle.erim_defs.specs.declared.replay_fault.ReplayFault.TheVariants.{NotLive, Unfinished}
-use Rattle.thread_runner.specs.Running.{IsRunning}
 use Rattle.erim_defs.specs.Machine.ReplayFaults.{FirstLaw, UnbrokenLaw, entries_fault, fault_index}
 use Rattle.erim_defs.specs.Machine.ReplayFaults.{fault_of_answer, is_over, one_by_one, replay_fault}
 use Rattle.erim_defs.specs.Machine.ReplayFaults.{single_steps, steps_fault}
@@ -428,17 +427,12 @@ no_rest entries old now index rest h none =
     }
 
 pub done_over : (entries : List Entry) (old now : ProcessValue) → AreDone entries old now
-    → IsOver (state_of now) → entries_fault 0 entries (state_of old) ≡ None
-done_over entries old now h over = h.fault ∙ ap unfinished (over_true (state_of now) over)
+    → is_over (state_of now) ≡ true → entries_fault 0 entries (state_of old) ≡ None
+done_over entries old now h over = h.fault ∙ ap unfinished over
 
 pub done_unfinished : (entries : List Entry) (old now : ProcessValue) → AreDone entries old now
-    → IsRunning (state_of now) → entries_fault 0 entries (state_of old) ≡ Some Unfinished
-done_unfinished entries old now h running =
-    let left = running.left in
-    let apart : eqb (state_of now).steps (state_of now).setup.budget ≡ false =
-    ne_eqb _ _ (λ same. omega (arith, left, same)) in
-    let over : is_over (state_of now) ≡ false = rw (running.goes_on, apart) refl in
-    h.fault ∙ ap unfinished over
+    → is_over (state_of now) ≡ false → entries_fault 0 entries (state_of old) ≡ Some Unfinished
+done_unfinished entries old now h runs = h.fault ∙ ap unfinished runs
 
 -- an entry of a list of entries
 pub entry_at : (entries : List Entry) (index : ℕ) (d : Entry) → AreEntries entries

@@ -1,36 +1,19 @@
--- A process that runs makes the step of the thread whose time slice it is.
-use Rattle.std.proofs.Common.{◌≡◌, ℕ, List, [], ◌∷◌, ◌++◌, Option, Some, None, true, refl}
+-- Steps by time slices, one more at a time.
+use Rattle.std.proofs.Common.{◌≡◌, ℕ, List, [], ◌∷◌, ◌++◌, Option, Some, refl}
 use Rattle.std.proofs.Common.{◌∙◌, ap, subst, append_assoc}
-use Rattle.std.proofs.lemmas.Bool.{eq-eqb, lt-leb}
-use Rattle.std.specs.Prelude.{slice_get, is_some, IsSome}
+use Rattle.std.proofs.lemmas.Bool.{eq-eqb}
+use Rattle.std.specs.Prelude.{IsSome}
 use Rattle.erim_defs.specs.declared.machine.Entry.{Entry}
-use Rattle.erim_defs.specs.declared.machine.Thread.{Thread}
 use Rattle.erim_defs.specs.Machine.Replay.{replay, then_}
 use Rattle.erim_defs.specs.Machine.Start.{first_state}
 use Rattle.erim_defs.specs.Machine.State.{Setup, State}
-use Rattle.erim_defs.specs.Machine.Step.{if_live, step}
+use Rattle.erim_defs.specs.Machine.Step.{step}
 use Rattle.erim_process.specs.ProcessValue.{ProcessValue, state_of}
-use Rattle.erim_defs.specs.Machine.StepAnswers.{step_answer, live_answer}
-use Rattle.erim_defs.specs.declared.stepped.Stepped.TheVariants.{Made}
 use Rattle.erim_defs.specs.declared.time_slice.TimeSlice.{TimeSlice}
 use Rattle.erim_defs.specs.Machine.Replay.{AreAlone}
-use Rattle.thread_runner.specs.Running.{IsRunning, LeadsBy, LeadsBySlices}
-use Rattle.erim_defs.specs.Machine.TimeSlices.{is_live_at, Course, after_slices, step_by_slice}
+use Rattle.thread_runner.specs.Running.{LeadsBy, LeadsBySlices}
+use Rattle.erim_defs.specs.Machine.TimeSlices.{Course, after_slices, step_by_slice}
 use Rattle.erim_defs.specs.Machine.TimeSlices.{course_from, slice_after}
-
-live_made : (thread : Option Thread) → is_some (if_live thread) ≡ true
-    → live_answer (if_live thread) ≡ Made
-live_made thread live = by (if_live thread) live
-  where
-    by : (o : Option Thread) → is_some o ≡ true → live_answer o ≡ Made
-    by None h = absurd cc
-    by (Some t) h = refl
-
-pub made_now : (s : State) (t : ℕ) → IsRunning s → is_live_at s.threads t ≡ true
-    → step_answer s t ≡ Made
-made_now s t running live =
-    rw (running.goes_on, lt-leb s.setup.budget s.steps running.left)
-    (live_made (slice_get s.threads t) live)
 
 -- one more step of worker 0
 alone_more : (entries : List Entry) (e : Entry) → AreAlone entries → e.worker ≡ 0

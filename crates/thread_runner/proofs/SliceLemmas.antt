@@ -1,46 +1,19 @@
 -- Which thread comes next: the live thread with the least number from one on, and the next time
 -- slice.
-use Rattle.std.proofs.Common.{◌≡◌, ℕ, ◌+◌, ◌-◌, ◌<◌, ◌≤◌, suc, true, false, Option}
+use Rattle.std.proofs.Common.{◌≡◌, ℕ, ◌+◌, ◌-◌, ◌<◌, suc, true, false, Option}
 use Rattle.std.proofs.Common.{Some, None, List, [], ◌∷◌, length, refl, sym, subst, arith, inl}
 use Rattle.std.proofs.Common.{inr}
-use Rattle.std.proofs.lemmas.Bool.{cases_Bool, cases_lt, le-leb, lt-leb, and_parts}
-use Rattle.std.specs.Prelude.{◌&&◌, IfNone, nat_le, nat_lt, option_map}
+use Rattle.std.proofs.lemmas.Bool.{cases_Bool, le-leb, and_parts}
+use Rattle.std.specs.Prelude.{◌&&◌, IfNone, IfSome, nat_le, nat_lt, option_map}
 use Rattle.erim_defs.specs.declared.machine.Thread.{Thread}
 use Rattle.erim_defs.specs.Inspection.Code.{or_else}
 use Rattle.erim_defs.specs.Machine.State.{any_live}
-use Rattle.erim_defs.proofs.LeastLemmas.{least_found, least_holds, least_never, least_none}
+use Rattle.erim_defs.proofs.LeastLemmas.{least_holds, least_never}
 use Rattle.erim_defs.specs.declared.time_slice.TimeSlice.{TimeSlice}
 use Rattle.erim_defs.specs.Machine.TimeSlices.{is_live_at, live_from, live_after, new_slice}
 use Rattle.erim_defs.specs.Machine.TimeSlices.{slice_after}
 
 -- ---- the least live thread from a number on
-
--- a thread that isn't live, or has a number below the first
-passed : (threads : List Thread) (first k : ℕ)
-    → (first ≤ k → is_live_at threads k ≡ false)
-    → (nat_le first k && is_live_at threads k) ≡ false
-passed threads first k f = elim (cases_lt k first) [
-  | inl low ↦ rw (lt-leb first k low) refl
-  | inr in_range ↦ rw (le-leb first k in_range, f in_range) refl
-]
-
--- the first one that is live
-pub live_here : (threads : List Thread) (first t : ℕ) → first ≤ t → t < length threads
-    → is_live_at threads t ≡ true
-    → ((k : ℕ) → first ≤ k → k < t → is_live_at threads k ≡ false)
-    → live_from threads first ≡ Some t
-live_here threads first t from low live before =
-    least_found (length threads) t (λ k. nat_le first k && is_live_at threads k) low
-    (rw (le-leb first t from, live) refl)
-    (λ k below. passed threads first k (λ in_range. before k in_range below))
-
--- no thread from there on is live
-pub live_nowhere : (threads : List Thread) (first : ℕ)
-    → ((k : ℕ) → first ≤ k → k < length threads → is_live_at threads k ≡ false)
-    → live_from threads first ≡ None
-live_nowhere threads first none =
-    least_none (length threads) (λ k. nat_le first k && is_live_at threads k)
-    (λ k below. passed threads first k (λ in_range. none k in_range below))
 
 -- what is found is live
 from_live : (threads : List Thread) (first t : ℕ) → live_from threads first ≡ Some t
@@ -82,7 +55,7 @@ new_live quantum threads (Some t) next f h =
     subst (λ (x : ℕ). is_live_at threads x ≡ true) same (f t refl)
 
 -- the thread whose time slice comes next is live
-pub slice_live : (quantum : ℕ) (threads : List Thread) (slice next : TimeSlice)
+slice_live : (quantum : ℕ) (threads : List Thread) (slice next : TimeSlice)
     → slice_after quantum threads slice ≡ Some next → is_live_at threads next.thread ≡ true
 slice_live quantum threads slice next h =
     elim (cases_Bool (is_live_at threads slice.thread && nat_lt 0 slice.left)) [
@@ -128,3 +101,10 @@ pub slice_or_none : (quantum : ℕ) (threads : List Thread) (slice : TimeSlice) 
 slice_or_none quantum threads slice None P any e =
     absurd (slice_there quantum threads slice any (sym e))
 slice_or_none quantum threads slice (Some next) P any e = tt
+
+-- the thread of the time slice that comes next, if one does, is live
+pub slice_or_live : (quantum : ℕ) (threads : List Thread) (slice : TimeSlice) (o : Option TimeSlice)
+    → o ≡ slice_after quantum threads slice
+    → IfSome o (λ next. is_live_at threads next.thread ≡ true)
+slice_or_live quantum threads slice None e = tt
+slice_or_live quantum threads slice (Some next) e = slice_live quantum threads slice next (sym e)

@@ -14,7 +14,7 @@ ghost use Rattle.erim_defs.specs.Machine.ReplayFaults.{one_by_one, replay_fault,
 ghost use Rattle.erim_defs.specs.Machine.ReplayFaults.{steps_fault};
 ghost use Rattle.erim_defs.specs.declared.limits.TheConstants.{MOST_STEPS};
 
-use crate::runner::{is_running, note_kept};
+use crate::runner::note_kept;
 use erim_defs::{Entry, ReplayFault, Stepped};
 use erim_process::{Process, Setup, StartFault};
 use journal_bytes::Journal;
@@ -61,10 +61,11 @@ fn make_entries(process: &mut Process, entries: &[Entry]) -> Result<(), ReplayFa
     for (index, entry) in entries.iter().enumerate() {
         make_steps(process, index as u32, entry)?;
     }
-    if is_running(process) {
-        return Err(ReplayFault::Unfinished);
+    if process.is_over() {
+        Ok(())
+    } else {
+        Err(ReplayFault::Unfinished)
     }
-    Ok(())
 }
 
 /// As `replay`, of a journal's entries.
@@ -105,7 +106,8 @@ pub fn replay(alloc: Global, setup: Setup, journal: &Journal) -> Result<Process,
         replay (setup_of setup) journal.now.entries ≡ Some (state_of process)) }
     ensures over { IfOk result (λ process. IsOver (state_of process)) }
 
-    // The journal is a complete replay, and the state that it leads to keeps the isolation invariant.
+    // The journal is a complete replay, and the state that it leads to keeps the isolation
+    // invariant.
     ensures complete { IfOk result (λ _. IsComplete (setup_of setup) journal.now.entries) }
     ensures kept { IfOk result (λ process. IsKept (state_of process)) }
     ensures journal { IfOk result (λ process.

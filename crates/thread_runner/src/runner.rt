@@ -9,8 +9,10 @@ ghost use Rattle.erim_process.specs.ProcessInvariant.{setup_of};
 ghost use Rattle.erim_process.specs.ProcessValue.{IsRun, state_of};
 ghost use Rattle.erim_defs.specs.Machine.StartFaults.{start_fault};
 ghost use Rattle.erim_defs.specs.Machine.Replay.{AreAlone};
-ghost use Rattle.thread_runner.specs.Running.{IsRunning, LeadsBySlices};
-ghost use Rattle.erim_defs.specs.Machine.TimeSlices.{after_slices, course_from, slice_after};
+ghost use Rattle.erim_defs.specs.Machine.ReplayFaults.{is_over};
+ghost use Rattle.thread_runner.specs.Running.{LeadsBySlices};
+ghost use Rattle.erim_defs.specs.Machine.TimeSlices.{after_slices, course_from, is_live_at};
+ghost use Rattle.erim_defs.specs.Machine.TimeSlices.{slice_after};
 
 use crate::time_slice::{first_slice, slice_after};
 use erim_defs::TimeSlice;
@@ -20,20 +22,13 @@ use std::alloc::Global;
 /// The worker of a process that is run by itself.
 const WORKER: u16 = 0;
 
-/// Can the process make a step?
-pub(crate) fn is_running(process: &Process) -> bool
-    ensures running { result ≡ true → IsRunning (state_of process.now) }
-    ensures left { result ≡ true → (state_of process.now).steps < process.now.setup.budget }
-    ensures over { result ≡ false → IsOver (state_of process.now) }
-{
-    process.end().is_none() && process.steps() < process.setup().budget
-}
-
-/// The turn of the next step, where the process can make one.
+/// The time slice of the next step, where the process can make one.
 fn next_slice(process: &Process, quantum: u32, slice: TimeSlice) -> Option<TimeSlice>
     requires some { 0 < quantum }
     requires low { slice.thread < 16 }
-    ensures running { IfSome result (λ _. IsRunning (state_of process.now)) }
+    ensures runs { IfSome result (λ _. is_over (state_of process.now) ≡ false) }
+    ensures live { IfSome result (λ next.
+        is_live_at (state_of process.now).threads next.thread ≡ true) }
     ensures left { IfSome result (λ _.
         (state_of process.now).steps < process.now.setup.budget) }
     ensures slice { IfSome result (λ next.
@@ -41,15 +36,14 @@ fn next_slice(process: &Process, quantum: u32, slice: TimeSlice) -> Option<TimeS
     ensures low { IfSome result (λ next. next.thread < 16) }
     ensures over { IfNone result (IsOver (state_of process.now)) }
 {
-    if is_running(process) {
-        slice_after(slice, process, quantum)
-    } else {
-        None
+    if process.is_over() {
+        return None;
     }
+    slice_after(slice, process, quantum)
 }
 
-/// Reads off a process what holds of each: its journal leads to its state, which keeps the isolation
-/// invariant.
+/// Reads off a process what holds of each: its journal leads to its state, which keeps the
+/// isolation invariant.
 pub(crate) fn note_kept(process: &Process)
     ensures run { IsRun process.now }
     ensures kept { IsKept (state_of process.now) }
@@ -67,7 +61,7 @@ fn run_slices(process: &mut Process, quantum: u32)
 {
     let mut slice = first_slice(quantum);
     while let Some(next) = next_slice(process, quantum, slice) {
-        process.step_now(WORKER, next.thread);
+        process.step_live(WORKER, next.thread);
         slice = next;
     }
 }

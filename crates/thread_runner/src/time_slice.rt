@@ -2,7 +2,7 @@
 
 ghost use Rattle.std.specs.Prelude.{◌≡◌, ◌<◌, IfSome};
 ghost use Rattle.erim_process.specs.ProcessValue.{state_of};
-ghost use Rattle.erim_defs.specs.Machine.TimeSlices.{is_live_at, live_from, live_after};
+ghost use Rattle.erim_defs.specs.Machine.TimeSlices.{live_after};
 ghost use Rattle.erim_defs.specs.Machine.TimeSlices.{first_slice, slice_after};
 
 use erim_defs::TimeSlice;
@@ -26,7 +26,7 @@ pub(crate) fn slice_after(slice: TimeSlice, process: &Process, quantum: u32) -> 
     ensures slice { result ≡ slice_after quantum (state_of process.now).threads slice }
     ensures low { IfSome result (λ next. next.thread < 16) }
 {
-    if slice.left > 0 && is_live_at(process, slice.thread) {
+    if slice.left > 0 && process.is_live(slice.thread) {
         return Some(TimeSlice {
             thread: slice.thread,
             left: slice.left - 1,
@@ -41,34 +41,14 @@ pub(crate) fn slice_after(slice: TimeSlice, process: &Process, quantum: u32) -> 
     }
 }
 
-/// Is the thread of this number there, and live?
-fn is_live_at(process: &Process, thread: u8) -> bool
-    ensures { result ≡ is_live_at (state_of process.now).threads thread }
-{
-    thread < process.thread_count() && process.thread(thread).live
-}
-
-/// The live thread with the least number from this one on.
-fn live_from(process: &Process, first: u8) -> Option<u8>
-    ensures least { result ≡ live_from (state_of process.now).threads first }
-    ensures low { IfSome result (λ thread. thread < 16) }
-{
-    for thread in first..process.thread_count() {
-        if is_live_at(process, thread) {
-            return Some(thread);
-        }
-    }
-    None
-}
-
 /// The next live thread after this one, round from the last to the first.
 fn live_after(process: &Process, thread: u8) -> Option<u8>
     requires { thread < 16 }
     ensures next { result ≡ live_after (state_of process.now).threads thread }
     ensures low { IfSome result (λ next. next < 16) }
 {
-    match live_from(process, thread + 1) {
+    match process.live_from(thread + 1) {
         Some(next) => Some(next),
-        None => live_from(process, 0),
+        None => process.live_from(0),
     }
 }

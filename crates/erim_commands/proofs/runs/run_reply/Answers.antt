@@ -29,7 +29,8 @@ returns c =
     })) entries
     ∙ ap (λ (s : Setup). journal_text (run_journal s p.journal)) setup in
     let Q : List Entry → Type 0 = λ es. IsJournal (run_journal p.setup es) in
-    λ text_of text. run_replied text_of p.setup c.args.journal.now p.journal (state_of p) _ _ _
+    λ text_of text. run_replied text_of p.setup c.args.journal.now c.args.workers p.journal
+    (state_of p) _ _ _
     (record {
       whole = record {
         runs = c.journal.ensures.run;
@@ -38,6 +39,6 @@ returns c =
         lawful = c.setup-setup.ensures.lawful;
       };
       form = subst Q entries c.journal.ensures.form;
-      alone = c.requires.alone;
+      within = c.requires.within;
     })
     status text bytes

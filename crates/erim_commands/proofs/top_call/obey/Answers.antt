@@ -1,7 +1,6 @@
 use Rattle.std.proofs.Common.{refl}
 use Rattle.std.specs.Prelude.{codes, map}
 use Rattle.std.specs.String.{string_bytes}
-use Rattle.erim_defs.specs.Output.Texts.{error_line}
 use Rattle.erim_defs.specs.Output.Words.{command_of}
 use Rattle.erim_commands.specs.declared.reply.Status.TheVariants.{NotUnderstood}
 use Rattle.erim_commands.specs.Commands.{plan_for}
@@ -11,15 +10,14 @@ use Rattle.erim_commands.proofs.DeliveryLemmas.{carries_line, carries_nothing, u
 use Rattle.erim_commands.proofs.top_call.obey.Goals as goal
 
 pub returns-in-Ok-None : goal.returns-in-Ok-None
-unfolding error_line
 returns-in-Ok-None g c =
     let old = world g.S.Store g.K.Sink c.args.store.now c.args.out.now in
-    let new = world g.S.Store g.K.Sink c.args.store.now c.put.new.out in
+    let new = world g.S.Store g.K.Sink c.args.store.now c.not_understood.new.out in
     let meant = rw c.in-Ok-None.field-0-is at c.in-Ok-None.ensures.meant in
     rw (← meant)
     (carries_line (line_reply NotUnderstood (codes "words not understood"))
-    old new c.put.result (record { held = refl; loads = refl; saves = refl })
-    (rw c.code_of.ensures at c.put.ensures))
+    old new c.not_understood.result (record { held = refl; loads = refl; saves = refl })
+    c.not_understood.ensures)
 
 pub returns-in-Err : goal.returns-in-Err
 returns-in-Err g c =

@@ -1,4 +1,4 @@
-use Rattle.std.proofs.Common.{◌≡◌, ◌+◌, drop, get_or, Err, rules}
+use Rattle.std.proofs.Common.{◌≡◌, ◌+◌, ◌∙◌, sym, drop, get_or, Err, rules}
 use Rattle.std.proofs.lemmas.List.{drop_all, drop_more}
 use Rattle.erim_defs.specs.declared.machine.Entry.{Entry}
 use Rattle.thread_runner.proofs.ReplayLemmas.{AreDone, done_over, done_unfinished, no_rest}
@@ -37,14 +37,14 @@ done c =
     no_rest c.args.entries.now c.args.process.now c.loop-index.process c.loop-index.index _
     c.loop-index.invariant (drop_all c.loop-index.index c.args.entries.now c.loop-index-test.false)
 
-pub returns-then-is_running-clause-exact : goal.returns-then-is_running-clause-exact
-returns-then-is_running-clause-exact c =
-    done_unfinished c.args.entries.now c.args.process.now c.loop-index.process
-    (done (goal.at.returns-then-is_running-clause-exact c).After-loop-index)
-    (c.is_running.ensures.running c.if-is_running.true)
-
-pub returns-clause-exact : goal.returns-clause-exact
-returns-clause-exact c =
+pub returns-then-is_over-clause-exact : goal.returns-then-is_over-clause-exact
+returns-then-is_over-clause-exact c =
     done_over c.args.entries.now c.args.process.now c.loop-index.process
-    (done (goal.at.returns-clause-exact c).After-loop-index)
-    (c.is_running.ensures.over c.if-is_running.false)
+    (done (goal.at.returns-then-is_over-clause-exact c).After-loop-index)
+    (sym c.is_over.ensures.value ∙ c.if-is_over.true)
+
+pub returns-else-is_over-clause-exact : goal.returns-else-is_over-clause-exact
+returns-else-is_over-clause-exact c =
+    done_unfinished c.args.entries.now c.args.process.now c.loop-index.process
+    (done (goal.at.returns-else-is_over-clause-exact c).After-loop-index)
+    (sym c.is_over.ensures.value ∙ c.if-is_over.false)

@@ -21,7 +21,7 @@ no_cause seed image fault startable same other (inr some) =
     cc
 
 pub unreachable-requires : goal.unreachable-requires
-unreachable-requires c =
+unreachable-requires g c =
     no_cause c.args.seed c.in_ok-generated_image.field-0 c.in-Err.fault
     c.generated_startable.ensures.startable c.in_ok-generated_image.ensures
     c.in_default.not-Memory c.in-Err.ensures.refused

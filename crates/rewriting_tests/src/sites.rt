@@ -1,9 +1,9 @@
 //! The library calls of rewriting: one site of seven bytes, and bytes that are no image.
 
-use crate::laying::image;
-use elf_image::ImageFault;
+use elf_image::{ImageFault, read_image};
 use overlap_rewrite::{RewriteFault, rewrite};
 use rewrite_sites::find_sites;
+use test_rows::image_bytes;
 
 /// mov eax, 0x0F000000; add edi, ebp; mov eax, 231; syscall.
 const LINES: &str = "\
@@ -12,7 +12,8 @@ function 401000 e";
 
 #[test]
 fn one_site(rt: HostRuntime) {
-    let image = image(&rt, rt.alloc(), LINES);
+    let bytes = image_bytes(rt.alloc(), LINES).ok().expect(&rt, "bytes");
+    let image = read_image(rt.alloc(), &bytes).ok().expect(&rt, "image");
     let sites = find_sites(rt.alloc(), &image).ok().expect(&rt, "sites");
     assert!(rt; sites.list.len() == 1);
     for site in &sites.list {

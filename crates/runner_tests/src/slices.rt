@@ -6,7 +6,7 @@
 
 ghost use Rattle.std.specs.Prelude.{◌<◌};
 
-use crate::laying::setup;
+use crate::laying::{LEAVING, setup};
 use erim_defs::{End, Entry};
 use erim_process::Process;
 use std::alloc::Global;
@@ -58,9 +58,6 @@ a stack that isn't mapped: the new thread faults at its first push
 | bf000f0500be00005000b8380000000f0585c07409b8180000000f05ebf750 | -
 | 1 - - 7 3
 | 64 - - 64 3";
-
-/// A page that leaves with status 0: mov edi, 0; mov eax, 231; syscall.
-const LEAVING: &str = "page 401000 rx BF00000000B8E70000000F05";
 
 /// The process of these lines after a run in time slices of a given number of steps.
 fn run_of(rt: &impl Abort, alloc: Global, lines: &str, quantum: u32) -> Process

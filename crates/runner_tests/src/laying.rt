@@ -6,19 +6,10 @@ use elf_image::{Image, read_image};
 use erim_process::{Process, Setup};
 use std::alloc::Global;
 use std::process::Abort;
-use test_rows::{RowFault, RowFile, word};
+use test_rows::image_bytes;
 
-/// The bytes of the image that lines lay out, as rows do.
-fn image_bytes(alloc: Global, lines: &str) -> Result<Vec<u8>, RowFault> {
-    let mut file = RowFile::new(alloc);
-    for line in lines.lines() {
-        let (name, rest) = word(line);
-        if !file.take(alloc, name, rest)? {
-            return Err(RowFault::Shape("no line of an image"));
-        }
-    }
-    file.bytes(alloc)
-}
+/// A page that leaves with status 0: mov edi, 0; mov eax, 231; syscall.
+pub const LEAVING: &str = "page 401000 rx BF00000000B8E70000000F05";
 
 /// The image that lines lay out.
 pub fn image(rt: &impl Abort, alloc: Global, lines: &str) -> Image {

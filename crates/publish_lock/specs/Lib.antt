@@ -1,0 +1,4 @@
+pub mod Rules
+pub mod SeatValue
+pub mod Held
+pub mod Seats

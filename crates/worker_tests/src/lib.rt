@@ -1,0 +1,5 @@
+//! Tests of `run` whose workers are held between their turns, by a gate.
+#![tactic(auto)]
+
+#[cfg(test)]
+mod meeting;
