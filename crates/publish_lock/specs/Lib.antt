@@ -1,4 +1,5 @@
 pub mod Rules
+pub mod Totals
 pub mod SeatValue
 pub mod Held
 pub mod Seats

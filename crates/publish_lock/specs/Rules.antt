@@ -22,10 +22,6 @@ are_of_workers most (entry ∷ entries) =
 abbrev pub is_summed : List Entry → State → Bool
 is_summed entries s = sum (map (λ (e : Entry). e.count) entries) == s.steps
 
--- the steps of a worker are the total of its ledger
-abbrev pub is_counted : ℕ → ℕ → List Entry → Bool
-is_counted worker total entries = total == steps_of_worker entries worker
-
 -- the total of the marks is 0, or the process is over
 abbrev pub is_marked : ℕ → State → Bool
 is_marked total s = if total == 0 then true else is_over s

@@ -14,6 +14,7 @@
 #![tactic(auto)]
 
 mod advancing;
+mod books;
 mod choice;
 mod counting;
 mod crossing;

@@ -1,15 +1,17 @@
 //! The value behind the lock.
 
-ghost use Rattle.std.specs.Prelude.{◌≡◌, ◌≢◌, ◌+◌, ◌<◌, true, slice_index, All};
+ghost use Rattle.std.specs.Prelude.{◌≡◌, ◌≢◌, ◌+◌, ◌<◌, true, length, slice_index, All};
 ghost use Rattle.erim_defs.specs.Machine.ReplayFaults.{is_over};
 ghost use Rattle.erim_process.specs.ProcessValue.{state_of};
-ghost use Rattle.publish_lock.specs.Rules.{are_of_workers, counts_of, is_counted, is_marked};
+ghost use Rattle.publish_lock.specs.Rules.{are_of_workers, counts_of, is_marked};
 ghost use Rattle.publish_lock.specs.Rules.{is_summed, mark_after, steps_of_turn};
+ghost use Rattle.publish_lock.specs.Totals.{are_counted};
 
 use crate::advancing::{Turn, advance};
+use crate::books::Books;
 use crate::choice::next_thread;
 use crate::counting::note_few;
-use crate::ledgers::{Crew, Held, add_steps};
+use crate::ledgers::Crew;
 use crate::seats::Seat;
 use erim_process::Process;
 use std::sync::ledger::{Book, Ledger};
@@ -29,26 +31,13 @@ pub struct Locked<
 > {
     pub process: Process,
     pub workers: u8,
-    pub one: Book<L1>,
-    pub two: Book<L2>,
-    pub three: Book<L3>,
-    pub four: Book<L4>,
-    pub five: Book<L5>,
-    pub six: Book<L6>,
-    pub seven: Book<L7>,
-    pub eight: Book<L8>,
+    pub books: Books<L1, L2, L3, L4, L5, L6, L7, L8>,
     pub marks: Book<O>,
     ghost some: { 0 < workers },
     ghost named: { are_of_workers O.workers process.journal ≡ true },
     ghost summed: { is_summed process.journal (state_of process) ≡ true },
-    ghost one_counted: { is_counted 1 one.total process.journal ≡ true },
-    ghost two_counted: { is_counted 2 two.total process.journal ≡ true },
-    ghost three_counted: { is_counted 3 three.total process.journal ≡ true },
-    ghost four_counted: { is_counted 4 four.total process.journal ≡ true },
-    ghost five_counted: { is_counted 5 five.total process.journal ≡ true },
-    ghost six_counted: { is_counted 6 six.total process.journal ≡ true },
-    ghost seven_counted: { is_counted 7 seven.total process.journal ≡ true },
-    ghost eight_counted: { is_counted 8 eight.total process.journal ≡ true },
+    ghost count: { length books ≡ 8 },
+    ghost counted: { are_counted 1 books process.journal ≡ true },
     ghost marked: { is_marked marks.total (state_of process) ≡ true },
 }
 
@@ -64,6 +53,7 @@ impl<
     O: Crew,
 > Locked<L1, L2, L3, L4, L5, L6, L7, L8, O> {
     /// A turn of the seat's worker: of the next of its threads, or of any where it has none.
+    #[tactic(auto, using(crate::proofs::TotalLemmas::total_fits, crate::proofs::TotalLemmas::counted_more))]
     pub fn take_turn(&mut self, seat: &mut Seat<L1, L2, L3, L4, L5, L6, L7, L8, O>) -> Turn
         ensures number { seat.new.number ≡ seat.old.number }
         ensures steps { seat.new.steps ≡ seat.old.steps + steps_of_turn result }
@@ -75,30 +65,14 @@ impl<
         let Locked {
             process,
             workers: _,
-            one,
-            two,
-            three,
-            four,
-            five,
-            six,
-            seven,
-            eight,
+            books,
             marks,
         } = self;
         let turn = advance(process, number, thread);
         seat.thread = thread;
         note_few(process, number);
         match turn {
-            Turn::Made { steps } => match &mut seat.held {
-                Held::One(share) => add_steps(one, share, &mut seat.steps, steps),
-                Held::Two(share) => add_steps(two, share, &mut seat.steps, steps),
-                Held::Three(share) => add_steps(three, share, &mut seat.steps, steps),
-                Held::Four(share) => add_steps(four, share, &mut seat.steps, steps),
-                Held::Five(share) => add_steps(five, share, &mut seat.steps, steps),
-                Held::Six(share) => add_steps(six, share, &mut seat.steps, steps),
-                Held::Seven(share) => add_steps(seven, share, &mut seat.steps, steps),
-                Held::Eight(share) => add_steps(eight, share, &mut seat.steps, steps),
-            },
+            Turn::Made { steps } => books.add(&mut seat.held, &mut seat.steps, steps),
             Turn::Over => {
                 if !seat.is_over {
                     marks.add(&mut seat.mark, 1);
@@ -110,6 +84,7 @@ impl<
     }
 
     /// Looks what a seat's shares say of the process.
+    #[tactic(auto, using(crate::proofs::TotalLemmas::seat_counted))]
     fn audit(&mut self, counts: &[u32; 9], seat: Seat<L1, L2, L3, L4, L5, L6, L7, L8, O>)
         requires parts { (L1.parts ≡ 1) × (L2.parts ≡ 1) × (L3.parts ≡ 1) × (L4.parts ≡ 1)
             × (L5.parts ≡ 1) × (L6.parts ≡ 1) × (L7.parts ≡ 1) × (L8.parts ≡ 1) }
@@ -126,16 +101,7 @@ impl<
             thread: _,
         } = seat;
         self.marks.audit(&mut mark);
-        match held {
-            Held::One(mut share) => self.one.audit(&mut share),
-            Held::Two(mut share) => self.two.audit(&mut share),
-            Held::Three(mut share) => self.three.audit(&mut share),
-            Held::Four(mut share) => self.four.audit(&mut share),
-            Held::Five(mut share) => self.five.audit(&mut share),
-            Held::Six(mut share) => self.six.audit(&mut share),
-            Held::Seven(mut share) => self.seven.audit(&mut share),
-            Held::Eight(mut share) => self.eight.audit(&mut share),
-        }
+        self.books.audit(held);
     }
 
     /// Looks what the shares of all seats say of the process.

@@ -9,6 +9,7 @@ ghost use Rattle.publish_lock.specs.Rules.{are_of_workers, counts_of, mark_after
 ghost use Rattle.publish_lock.specs.Seats.{are_new};
 
 use crate::advancing::Turn;
+use crate::books::Books;
 use crate::counting::{count_steps, note_started};
 use crate::gates::Gate;
 use crate::ledgers::{Crew, Held};
@@ -128,14 +129,7 @@ impl<
         let lock = Mutex::new(Locked {
             process,
             workers,
-            one,
-            two,
-            three,
-            four,
-            five,
-            six,
-            seven,
-            eight,
+            books: Books::new(one, two, three, four, five, six, seven, eight),
             marks,
         });
         Ok((Shared { lock }, seats))
@@ -185,14 +179,7 @@ impl<
         let Locked {
             process,
             workers: _,
-            one: _,
-            two: _,
-            three: _,
-            four: _,
-            five: _,
-            six: _,
-            seven: _,
-            eight: _,
+            books: _,
             marks: _,
         } = locked;
         Closed { process, counts }
